@@ -1,0 +1,31 @@
+// Odd ones: 32 bits joined by exclusive or.
+ghost use mathlib.Core.Path.{_≡_};
+ghost use Rattle.tally.specs.Group.{Says};
+ghost use Rattle.tally.specs.Makes.{odd-group};
+use crate::Tally;
+use crate::values::OddOnes;
+
+pub impl PartialEq<OddOnes> for OddOnes as OddEq {
+    ghost equals = { λ x y b. Says b (x ≡ y) };
+
+    fn eq(&self, other: &OddOnes) -> bool {
+        self.0 == other.0
+    }
+}
+
+pub impl Tally for OddOnes as OddTally {
+    ghost group = { odd-group };
+
+    fn zero() -> OddOnes {
+        OddOnes(0)
+    }
+
+    fn add(self, other: OddOnes) -> OddOnes {
+        OddOnes(self.0 ^ other.0)
+    }
+
+    // Each bit is its own negation.
+    fn neg(self) -> OddOnes {
+        OddOnes(self.0)
+    }
+}
