@@ -1,13 +1,11 @@
 -- What a tally is, and what a list of tallies comes to.
 --
 -- Group T       an abelian group on T, with decidable equality
--- Says b P      the test b answers whether P holds
 -- total 𝓣 ts    the sum of the list ts, from the left end; zero where it is empty
 -- TotalLaws 𝓣   how sums of lists go together
 --
 -- Assumes nothing.
 use mathlib.Core.Path.{_≡_}
-use mathlib.Core.Bool.{Bool, true}
 use mathlib.Core.List.{List, [], _∷_, _++_}
 
 pub record Group (T : Type 0) : Type 0 where
@@ -19,9 +17,6 @@ pub record Group (T : Type 0) : Type 0 where
   pub left : (a : T) → add zero a ≡ a
   pub inverse : (a : T) → add (neg a) a ≡ zero
   pub decides : (a b : T) → Dec (a ≡ b)
-
-abbrev pub Says : Bool → Type 0 → Type 0
-Says b P = (b ≡ true → P) × (P → b ≡ true)
 
 abbrev pub total : {T : Type 0} → Group T → List T → T
 total 𝓣 [] = 𝓣 .zero

@@ -1,12 +1,12 @@
 // Foot lengths: millimetres modulo 2^32, a group of their own.
 ghost use mathlib.Core.Path.{_≡_};
-ghost use Rattle.tally.specs.Group.{Says};
+ghost use Rattle.std.specs.Orderings.{Decides};
 ghost use Rattle.tally.specs.Makes.{foot-group};
 use crate::Tally;
 use crate::values::FootMm;
 
 pub impl PartialEq<FootMm> for FootMm as FootEq {
-    ghost equals = { λ x y b. Says b (x ≡ y) };
+    ghost equals = { λ x y b. Decides b (x ≡ y) };
 
     fn eq(&self, other: &FootMm) -> bool {
         self.mm == other.mm

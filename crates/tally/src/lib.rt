@@ -1,7 +1,8 @@
 // Tallies: the values that are added up along a derivation.
 ghost use mathlib.Core.Path.{_≡_};
 ghost use mathlib.Core.Bool.{Bool};
-ghost use Rattle.tally.specs.Group.{Group, Says};
+ghost use Rattle.std.specs.Orderings.{Decides};
+ghost use Rattle.tally.specs.Group.{Group};
 
 mod foot_mm;
 mod last_mm;
@@ -34,7 +35,7 @@ pub trait Tally: Copy + PartialEq<Self> {
     ghost group: { Group Self };
 
     // `==` answers true exactly for the same tally.
-    law equal: { (x y : Self) (b : Bool) → Self·PartialEq .equals x y b → Says b (x ≡ y) };
+    law equal: { (x y : Self) (b : Bool) → Self·PartialEq .equals x y b → Decides b (x ≡ y) };
 
     fn zero() -> Self
         ensures { λ r. ⌜ r ≡ group .zero ⌝ };

@@ -1,12 +1,12 @@
 // Odd ones: 32 bits joined by exclusive or.
 ghost use mathlib.Core.Path.{_≡_};
-ghost use Rattle.tally.specs.Group.{Says};
+ghost use Rattle.std.specs.Orderings.{Decides};
 ghost use Rattle.tally.specs.Makes.{odd-group};
 use crate::Tally;
 use crate::values::OddOnes;
 
 pub impl PartialEq<OddOnes> for OddOnes as OddEq {
-    ghost equals = { λ x y b. Says b (x ≡ y) };
+    ghost equals = { λ x y b. Decides b (x ≡ y) };
 
     fn eq(&self, other: &OddOnes) -> bool {
         self.0 == other.0

@@ -1,12 +1,12 @@
 // Pairs of any two tallies, part by part.
 ghost use mathlib.Core.Path.{_≡_};
-ghost use Rattle.tally.specs.Group.{Says};
+ghost use Rattle.std.specs.Orderings.{Decides};
 ghost use Rattle.tally.specs.Makes.{pair-group};
 use crate::Tally;
 use crate::values::Pair;
 
 pub impl<X: Tally, Y: Tally> PartialEq<Pair<X, Y>> for Pair<X, Y> as PairEq {
-    ghost equals = { λ p q b. Says b (p ≡ q) };
+    ghost equals = { λ p q b. Decides b (p ≡ q) };
 
     fn eq(&self, other: &Pair<X, Y>) -> bool {
         self.0 == other.0 && self.1 == other.1

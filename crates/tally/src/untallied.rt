@@ -1,12 +1,12 @@
 // Untallied: the tally with one value.
 ghost use mathlib.Core.Path.{_≡_};
-ghost use Rattle.tally.specs.Group.{Says};
+ghost use Rattle.std.specs.Orderings.{Decides};
 ghost use Rattle.tally.specs.Makes.{untallied-group};
 use crate::Tally;
 use crate::values::Untallied;
 
 pub impl PartialEq<Untallied> for Untallied as UntalliedEq {
-    ghost equals = { λ x y b. Says b (x ≡ y) };
+    ghost equals = { λ x y b. Decides b (x ≡ y) };
 
     fn eq(&self, _other: &Untallied) -> bool {
         true

@@ -1,0 +1,9 @@
+pub mod Meaning
+pub mod Takes
+pub mod Derivation
+pub mod Laws
+pub mod Listed
+pub mod Twinned
+pub mod Stacks
+pub mod WellListed
+pub mod WellTwinned

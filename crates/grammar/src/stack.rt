@@ -1,0 +1,12 @@
+ghost use mathlib.Core.Path.{_≡_};
+ghost use Prim.Native.Nat.{_≤_};
+ghost use lib.ListN.{length};
+
+// The symbols that a run still has to use up. They fill the upper end of the cells: the first one
+// stands at `top`, so that a rule's word goes in front of the rest without moving it.
+pub(crate) struct Stack {
+    pub(crate) cells: [u8; 16_384],
+    pub(crate) top: usize,
+    ghost within: { top ≤ 16384 },
+    ghost room: { length cells ≡ 16384 },
+}

@@ -1,0 +1,5 @@
+// Two grammars of any makes over one tally, side by side.
+pub struct Twin<G, H> {
+    pub first: G,
+    pub second: H,
+}
