@@ -5,13 +5,17 @@ ghost use Rattle.std.specs.Options.{isSome};
 ghost use Rattle.grammar.specs.Meaning.{Meaning, WellFormed, word-of, tally-of};
 use tally::Tally;
 
+mod derivation;
 mod list_grammar;
 mod list_records;
 mod records;
 mod stack;
+mod stack_moves;
 mod twin;
 mod twin_grammar;
 
+pub use derivation::MAX_INPUT;
+pub use derivation::derive;
 pub use list_grammar::ListGrammarGrammar;
 pub use list_records::ListGrammar;
 pub use records::RuleRecord;

@@ -2,8 +2,9 @@ ghost use mathlib.Core.Path.{_≡_};
 ghost use Prim.Native.Nat.{_≤_};
 ghost use lib.ListN.{length};
 
-// The symbols that a run still has to use up. They fill the upper end of the cells: the first one
-// stands at `top`, so that a rule's word goes in front of the rest without moving it.
+// The symbols that a run still has to use up. They fill the upper end of the cells, the first one
+// at `top`, so that the word of a rule goes in front of the rest without moving it.
+#[derive(Drop)]
 pub(crate) struct Stack {
     pub(crate) cells: [u8; 16_384],
     pub(crate) top: usize,
