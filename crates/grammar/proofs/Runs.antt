@@ -51,10 +51,11 @@ module _ {T : Type 0} (𝓣 : Group T) (M : Meaning T) where
 
     pub ran-more : (i a left : ℕ) (sum sum′ t : T) (w w′ : Word) → Ran i sum w → i < length s → a ≡ getD s i 0 → left + i + 1 ≡ length s →
         (step M w a ≡ Some (record { word = w′; tally = t })) × (length w′ ≤ left) → sum′ ≡ 𝓣 .add sum t → Ran (i + 1) sum′ w′
-    ran-more i a left sum sum′ t w w′ ran h read rest k more =
-        (ran .0 ∙ ap (λ r. shift 𝓣 sum (takes 𝓣 M w r)) (opened i a h read) ∙ ap (λ o. shift 𝓣 sum (follow 𝓣 (λ x. takes 𝓣 M x (drop (i + 1) s)) o)) (k .0)
-            ∙ shift-shift 𝓣 sum t (takes 𝓣 M w′ (drop (i + 1) s)) ∙ ap (λ u. shift 𝓣 u (takes 𝓣 M w′ (drop (i + 1) s))) (sym more),
-         omega arith)
+    ran-more i a left sum sum′ t w w′ ran h read rest k more = (
+      ran .0 ∙ ap (λ r. shift 𝓣 sum (takes 𝓣 M w r)) (opened i a h read) ∙ ap (λ o. shift 𝓣 sum (follow 𝓣 (λ x. takes 𝓣 M x (drop (i + 1) s)) o)) (k .0)
+          ∙ shift-shift 𝓣 sum t (takes 𝓣 M w′ (drop (i + 1) s)) ∙ ap (λ u. shift 𝓣 u (takes 𝓣 M w′ (drop (i + 1) s))) (sym more),
+      omega arith,
+    )
 
     pub ran-stuck : (i a left : ℕ) (sum : T) (w : Word) → Ran i sum w → i < length s → a ≡ getD s i 0 → left + i + 1 ≡ length s →
         ((r : Input) → length r ≡ left → takes 𝓣 M w (a ∷ r) ≡ None) → takes 𝓣 M v s ≡ None

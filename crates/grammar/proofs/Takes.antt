@@ -56,11 +56,14 @@ module _ {T : Type 0} (𝓣 : Group T) (M : Meaning T) where
       on m (Some q) f ih e =
           let i = ih q refl in
           record {
-            front = a ∷ i .front; back = i .back; first = 𝓣 .add (m .tally) (i .first); second = i .second;
+            front = a ∷ i .front;
+            back = i .back;
+            first = 𝓣 .add (m .tally) (i .first);
+            second = i .second;
             joined = ap {B = Input} (λ l. a ∷ l) (i .joined);
             takes-front = rw f (ap (shift 𝓣 (m .tally)) (i .takes-front));
             takes-back = i .takes-back;
-            adds-up = sym (some-same e) ∙ ap (𝓣 .add (m .tally)) (i .adds-up) ∙ sym (𝓣 .assoc (m .tally) (i .first) (i .second))
+            adds-up = sym (some-same e) ∙ ap (𝓣 .add (m .tally)) (i .adds-up) ∙ sym (𝓣 .assoc (m .tally) (i .first) (i .second));
           }
 
       go : ((w : Word) (q : T) → takes 𝓣 M (w ++ y) s ≡ Some q → Split 𝓣 M w y s q) → (o : Option (Weighted T)) → M .rule A a ≡ o →

@@ -9,6 +9,8 @@ mod last_mm;
 mod odd_ones;
 mod pair;
 mod sums;
+#[cfg(test)]
+mod tests;
 mod untallied;
 mod values;
 
