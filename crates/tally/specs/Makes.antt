@@ -13,7 +13,7 @@ use native.Mathlib.Omega.{arith}
 use native.Mathlib.Bridge.{le-prop}
 use mathlib.Core.HLevel.{isProp→PathP}
 use native.Mathlib.Decide.{ℕ-discrete}
-use lib.Bits.{bitXor, xor-assoc, xor-comm, xor-self, xor-zero-l}
+use lib.Bits.{bitXor, xor-lt, xor-assoc, xor-comm, xor-self, xor-zero-l}
 use Rattle.tally.specs.Group.{Group}
 use Rattle.tally.specs.declared.values.Untallied.{Untallied}
 use Rattle.tally.specs.declared.values.FootMm.{FootMm}
@@ -37,13 +37,13 @@ untallied-group = record {
   decides = λ _ _. yes refl;
 }
 
--- Residues modulo 2 ^ 32 under the names of a type: a number below it, and nothing else.
-pub record Residues (T : Type 0) : Type 0 where
-  pub mm : T → ℕ
+-- A type whose values are the numbers below 2 ^ 32, and nothing else.
+pub record Numbered (T : Type 0) : Type 0 where
+  pub number : T → ℕ
   pub of : (n : ℕ) → n < 2 ^ 32 → T
-  pub fits : (x : T) → mm x < 2 ^ 32
-  pub reads : (n : ℕ) (h : n < 2 ^ 32) → mm (of n h) ≡ n
-  pub same : (x y : T) → mm x ≡ mm y → x ≡ y
+  pub fits : (x : T) → number x < 2 ^ 32
+  pub reads : (n : ℕ) (h : n < 2 ^ 32) → number (of n h) ≡ n
+  pub same : (x y : T) → number x ≡ number y → x ≡ y
 
 -- the arithmetic of the laws
 pub residue-left : (x : ℕ) → x < 2 ^ 32 → (0 + x) % 2 ^ 32 ≡ x
@@ -58,16 +58,16 @@ residue-assoc x y z = omega arith
 pub residue-comm : (x y : ℕ) → (x + y) % 2 ^ 32 ≡ (y + x) % 2 ^ 32
 residue-comm x y = omega arith
 
-abbrev pub residue-group : {T : Type 0} → Residues T → Group T
+abbrev pub residue-group : {T : Type 0} → Numbered T → Group T
 residue-group R = record {
   zero = R .of 0 (omega arith);
-  add = λ x y. R .of ((R .mm x + R .mm y) % 2 ^ 32) (omega arith);
-  neg = λ x. R .of ((2 ^ 32 - R .mm x) % 2 ^ 32) (omega arith);
-  assoc = λ x y z. R .same _ _ (simp (R .reads) (residue-assoc (R .mm x) (R .mm y) (R .mm z)));
-  comm = λ x y. R .same _ _ (simp (R .reads) (residue-comm (R .mm x) (R .mm y)));
-  left = λ x. R .same _ _ (simp (R .reads) (residue-left (R .mm x) (R .fits x)));
-  inverse = λ x. R .same _ _ (simp (R .reads) (residue-inverse (R .mm x) (R .fits x)));
-  decides = decided (R .mm) (R .same) ℕ-discrete;
+  add = λ x y. R .of ((R .number x + R .number y) % 2 ^ 32) (omega arith);
+  neg = λ x. R .of ((2 ^ 32 - R .number x) % 2 ^ 32) (omega arith);
+  assoc = λ x y z. R .same _ _ (simp (R .reads) (residue-assoc (R .number x) (R .number y) (R .number z)));
+  comm = λ x y. R .same _ _ (simp (R .reads) (residue-comm (R .number x) (R .number y)));
+  left = λ x. R .same _ _ (simp (R .reads) (residue-left (R .number x) (R .fits x)));
+  inverse = λ x. R .same _ _ (simp (R .reads) (residue-inverse (R .number x) (R .fits x)));
+  decides = decided (R .number) (R .same) ℕ-discrete;
 }
 
 abbrev pub foot-of : (n : ℕ) → n < 2 ^ 32 → FootMm
@@ -77,7 +77,7 @@ pub foot-same : (x y : FootMm) → x .mm ≡ y .mm → x ≡ y
 foot-same x y e = λ i. foot-of (e i) (isProp→PathP (λ j. e j < 2 ^ 32) (λ j. le-prop) (x .fits) (y .fits) i)
 
 abbrev pub foot-group : Group FootMm
-foot-group = residue-group (record { mm = λ x. x .mm; of = foot-of; fits = λ x. x .fits; reads = λ n h. refl; same = foot-same })
+foot-group = residue-group (record { number = λ x. x .mm; of = foot-of; fits = λ x. x .fits; reads = λ n h. refl; same = foot-same })
 
 abbrev pub last-of : (n : ℕ) → n < 2 ^ 32 → LastMm
 last-of n h = record { mm = n; fits = h }
@@ -86,21 +86,24 @@ pub last-same : (x y : LastMm) → x .mm ≡ y .mm → x ≡ y
 last-same x y e = λ i. last-of (e i) (isProp→PathP (λ j. e j < 2 ^ 32) (λ j. le-prop) (x .fits) (y .fits) i)
 
 abbrev pub last-group : Group LastMm
-last-group = residue-group (record { mm = λ x. x .mm; of = last-of; fits = λ x. x .fits; reads = λ n h. refl; same = last-same })
+last-group = residue-group (record { number = λ x. x .mm; of = last-of; fits = λ x. x .fits; reads = λ n h. refl; same = last-same })
 
-abbrev pub odd-of : ℕ → OddOnes
-odd-of n = record { 0 = n }
+abbrev pub odd-of : (n : ℕ) → n < 2 ^ 32 → OddOnes
+odd-of n h = record { bits = n; fits = h }
+
+pub odd-same : (x y : OddOnes) → x .bits ≡ y .bits → x ≡ y
+odd-same x y e = λ i. odd-of (e i) (isProp→PathP (λ j. e j < 2 ^ 32) (λ j. le-prop) (x .fits) (y .fits) i)
 
 abbrev pub odd-group : Group OddOnes
 odd-group = record {
-  zero = odd-of 0;
-  add = λ x y. odd-of (bitXor (x .0) (y .0));
+  zero = odd-of 0 (omega arith);
+  add = λ x y. odd-of (bitXor (x .bits) (y .bits)) (xor-lt 32 (x .bits) (y .bits) (x .fits) (y .fits));
   neg = λ x. x;
-  assoc = λ x y z. ap odd-of (xor-assoc (x .0) (y .0) (z .0));
-  comm = λ x y. ap odd-of (xor-comm (x .0) (y .0));
-  left = λ x. ap odd-of (xor-zero-l (x .0));
-  inverse = λ x. ap odd-of (xor-self (x .0));
-  decides = decided (λ x. x .0) (λ x y e. ap odd-of e) ℕ-discrete;
+  assoc = λ x y z. odd-same _ _ (xor-assoc (x .bits) (y .bits) (z .bits));
+  comm = λ x y. odd-same _ _ (xor-comm (x .bits) (y .bits));
+  left = λ x. odd-same _ _ (xor-zero-l (x .bits));
+  inverse = λ x. odd-same _ _ (xor-self (x .bits));
+  decides = decided (λ x. x .bits) odd-same ℕ-discrete;
 }
 
 module _ {X Y : Type 0} where

@@ -9,7 +9,7 @@ pub impl PartialEq<OddOnes> for OddOnes as OddEq {
     ghost equals = { λ x y b. Decides b (x ≡ y) };
 
     fn eq(&self, other: &OddOnes) -> bool {
-        self.0 == other.0
+        self.bits == other.bits
     }
 }
 
@@ -17,15 +17,17 @@ pub impl Tally for OddOnes as OddTally {
     ghost group = { odd-group };
 
     fn zero() -> OddOnes {
-        OddOnes(0)
+        OddOnes { bits: 0 }
     }
 
     fn add(self, other: OddOnes) -> OddOnes {
-        OddOnes(self.0 ^ other.0)
+        OddOnes {
+            bits: self.bits ^ other.bits,
+        }
     }
 
     // Each bit is its own negation.
     fn neg(self) -> OddOnes {
-        OddOnes(self.0)
+        OddOnes { bits: self.bits }
     }
 }

@@ -13,10 +13,10 @@ fn lengths_go_round() -> Result<(), Fail> {
 // A list of pairs is summed part by part; of odd ones the even ones go.
 #[test]
 fn pairs_are_summed() -> Result<(), Fail> {
-    let a = Pair(FootMm { mm: 270 }, OddOnes(6));
-    let b = Pair(FootMm { mm: 265 }, OddOnes(3));
+    let a = Pair(FootMm { mm: 270 }, OddOnes { bits: 6 });
+    let b = Pair(FootMm { mm: 265 }, OddOnes { bits: 3 });
     let all = sum(&[a, b]);
     check(all.0 == FootMm { mm: 535 })?;
-    check(all.1 == OddOnes(5))?;
+    check(all.1 == OddOnes { bits: 5 })?;
     check(sum(&[a, b, a]) != all)
 }

@@ -20,9 +20,12 @@ pub struct LastMm {
     ghost fits: { mm < 2 ^ 32 },
 }
 
-// Bit k tells whether one number k came an odd number of times.
+// Bit k tells whether the k-th thing came an odd number of times.
 #[derive(Clone, Copy, Debug)]
-pub struct OddOnes(pub u32);
+pub struct OddOnes {
+    pub bits: u32,
+    ghost fits: { bits < 2 ^ 32 },
+}
 
 // Two tallies side by side.
 #[derive(Clone, Copy, Debug)]
