@@ -17,7 +17,7 @@ use Rattle.tally.specs.Group.{Group, total}
 use Rattle.tally.proofs.Totals.{right, total-push}
 use Rattle.grammar.specs.Meaning.{Word, Input, Weighted, Meaning}
 use Rattle.grammar.specs.Takes.{behind, shift, follow, takes}
-use Rattle.grammar.specs.Derivation.{Item, tally, symbol, Form, tallies, symbols, side, LeftStep, Derives, derive-none, derive-more}
+use Rattle.grammar.specs.Derivation.{tally, symbol, Form, tallies, symbols, side, LeftStep, Derives, derive-none, derive-more}
 use Rattle.grammar.proofs.Options.{none-some, some-same}
 
 pub symbols-append : (T : Type 0) (v w : Word) → symbols T (v ++ w) ≡ symbols T v ++ symbols T w

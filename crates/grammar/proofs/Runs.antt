@@ -1,12 +1,10 @@
 -- A run, step by step. Assumes nothing.
-use mathlib.Core.Path.{_≡_, refl, sym, ap, ap₂, _∙_}
-use mathlib.Core.Bool.{Bool, true, false}
-use mathlib.Core.List.{List, [], _∷_, _++_}
-use Prim.Native.Nat.{ℕ, suc, _+_, _-_, _≤_, _<_}
-use native.Mathlib.Numerals.{add-one}
+use mathlib.Core.Path.{_≡_, refl, sym, ap, _∙_}
+use mathlib.Core.Bool.{true}
+use mathlib.Core.List.{[], _∷_, _++_}
+use Prim.Native.Nat.{ℕ, _+_, _≤_, _<_}
 use native.Mathlib.Omega.{arith}
 use lib.ListN.{length, getD, drop, length-append, length-drop}
-use lib.Seq.{drop-cons}
 use borrow.Author.Tests.{lt-ltb, le-ltb}
 use Rattle.std.proofs.shelf.Lists.{drop-all}
 use Rattle.std.specs.Options.{isSome}
@@ -17,8 +15,9 @@ use Rattle.tally.specs.Group.{Group}
 use Rattle.tally.proofs.Totals.{right}
 use Rattle.grammar.specs.Meaning.{Word, Input, Weighted, Meaning, word-of, tally-of}
 use Rattle.grammar.specs.Takes.{behind, step, shift, follow, takes}
-use Rattle.grammar.specs.Laws.{derived}
-use Rattle.grammar.proofs.Takes.{shift-shift, shift-zero, too-long}
+use Rattle.grammar.specs.Laws.{derived, max-input}
+use Rattle.grammar.proofs.Lists.{opened}
+use Rattle.grammar.proofs.Takes.{shift-shift, too-long}
 
 module _ {T : Type 0} (𝓣 : Group T) (M : Meaning T) where
   -- a rule whose word leaves too many symbols
@@ -43,16 +42,10 @@ module _ {T : Type 0} (𝓣 : Group T) (M : Meaning T) where
     abbrev pub Ran : ℕ → T → Word → Type 0
     Ran i sum w = (takes 𝓣 M v s ≡ shift 𝓣 sum (takes 𝓣 M w (drop i s))) × (length w + i ≤ length s)
 
-    pub ran-none : (w : Word) (sum : T) → sum ≡ 𝓣 .zero → w ≡ v → length v ≤ length s → Ran 0 sum w
-    ran-none w sum z e h = (rw (z, e) (sym (shift-zero 𝓣 (takes 𝓣 M v s))), omega (arith, ap length e))
-
-    opened : (i a : ℕ) → i < length s → a ≡ getD s i 0 → drop i s ≡ a ∷ drop (i + 1) s
-    opened i a h read = rw (add-one, read) (drop-cons s i 0 h)
-
     pub ran-more : (i a left : ℕ) (sum sum′ t : T) (w w′ : Word) → Ran i sum w → i < length s → a ≡ getD s i 0 → left + i + 1 ≡ length s →
         (step M w a ≡ Some (record { word = w′; tally = t })) × (length w′ ≤ left) → sum′ ≡ 𝓣 .add sum t → Ran (i + 1) sum′ w′
     ran-more i a left sum sum′ t w w′ ran h read rest k more = (
-      ran .0 ∙ ap (λ r. shift 𝓣 sum (takes 𝓣 M w r)) (opened i a h read) ∙ ap (λ o. shift 𝓣 sum (follow 𝓣 (λ x. takes 𝓣 M x (drop (i + 1) s)) o)) (k .0)
+      ran .0 ∙ ap (λ r. shift 𝓣 sum (takes 𝓣 M w r)) (opened s i a 0 h read) ∙ ap (λ o. shift 𝓣 sum (follow 𝓣 (λ x. takes 𝓣 M x (drop (i + 1) s)) o)) (k .0)
           ∙ shift-shift 𝓣 sum t (takes 𝓣 M w′ (drop (i + 1) s)) ∙ ap (λ u. shift 𝓣 u (takes 𝓣 M w′ (drop (i + 1) s))) (sym more),
       omega arith,
     )
@@ -60,7 +53,7 @@ module _ {T : Type 0} (𝓣 : Group T) (M : Meaning T) where
     pub ran-stuck : (i a left : ℕ) (sum : T) (w : Word) → Ran i sum w → i < length s → a ≡ getD s i 0 → left + i + 1 ≡ length s →
         ((r : Input) → length r ≡ left → takes 𝓣 M w (a ∷ r) ≡ None) → takes 𝓣 M v s ≡ None
     ran-stuck i a left sum w ran h read rest k =
-        ran .0 ∙ ap (λ r. shift 𝓣 sum (takes 𝓣 M w r)) (opened i a h read) ∙ ap (shift 𝓣 sum) (k (drop (i + 1) s) (simp length-drop (omega arith)))
+        ran .0 ∙ ap (λ r. shift 𝓣 sum (takes 𝓣 M w r)) (opened s i a 0 h read) ∙ ap (shift 𝓣 sum) (k (drop (i + 1) s) (simp length-drop (omega arith)))
 
     pub ran-all : (i : ℕ) (sum : T) (w : Word) → Ran i sum w → length s ≤ i → takes 𝓣 M v s ≡ Some sum
     ran-all i sum w ran h = ran .0 ∙ at w (omega arith)
@@ -70,8 +63,8 @@ module _ {T : Type 0} (𝓣 : Group T) (M : Meaning T) where
         at (A ∷ w) k = absurd (omega arith)
 
   -- what the run answers
-  pub derived-long : (w : Word) (s : Input) → 16384 < length s → Err (length s) ≡ derived 𝓣 M w s
-  derived-long w s h = rw (lt-ltb 16384 (length s) h)
+  pub derived-long : (w : Word) (s : Input) → max-input < length s → Err (length s) ≡ derived 𝓣 M w s
+  derived-long w s h = rw (lt-ltb max-input (length s) h)
 
-  pub derived-short : (w : Word) (s : Input) (o : Option T) → length s ≤ 16384 → takes 𝓣 M w s ≡ o → Ok o ≡ derived 𝓣 M w s
-  derived-short w s o h e = rw (le-ltb 16384 (length s) h, e)
+  pub derived-short : (w : Word) (s : Input) (o : Option T) → length s ≤ max-input → takes 𝓣 M w s ≡ o → Ok o ≡ derived 𝓣 M w s
+  derived-short w s o h e = rw (le-ltb max-input (length s) h, e)

@@ -6,16 +6,17 @@
 --
 -- Assumes nothing.
 use mathlib.Core.Path.{_≡_, refl, sym, _∙_, ap}
-use mathlib.Core.List.{List, [], _∷_, _++_, append-assoc, append-nil}
+use mathlib.Core.List.{[], _∷_, _++_, append-assoc, append-nil}
 use mathlib.Core.Logic.{_↔_}
-use Prim.Native.Nat.{ℕ, suc, _+_, _≤_, _<_}
+use Prim.Native.Nat.{suc, _≤_, _<_}
 use native.Mathlib.Omega.{arith}
 use lib.ListN.{length, length-append}
+use Rattle.std.specs.Options.{isSome}
 use Rattle.std.specs.declared.option.Option.{Option}
 use Rattle.std.specs.declared.option.Option.the-variants.{Some, None}
 use Rattle.tally.specs.Group.{Group}
-use Rattle.grammar.specs.Meaning.{Word, Input, Weighted, Meaning}
-use Rattle.grammar.specs.Takes.{behind, step, shift, follow, takes, Differ, only-first, only-second, by-tally, Same}
+use Rattle.grammar.specs.Meaning.{Word, Input, Weighted, Meaning, Letter, Each, WellFormed}
+use Rattle.grammar.specs.Takes.{behind, shift, follow, takes, Differ, only-first, only-second, by-tally, Same}
 use Rattle.grammar.specs.Laws.{Split, WordLaws}
 use Rattle.grammar.proofs.Options.{none-some, some-none, some-same}
 
@@ -103,6 +104,20 @@ module _ {T : Type 0} (𝓣 : Group T) (M : Meaning T) where
       at None e = refl
       at (Some t) e = absurd (omega (arith, long-enough s w t e))
 
+  -- a rule stands at letters only, so a taken input is of letters
+  pub lettered : WellFormed M → (s : Input) (w : Word) (t : T) → takes 𝓣 M w s ≡ Some t → Each Letter s
+  lettered f [] w t e = tt
+  lettered f (a ∷ s) [] t e = absurd (none-some e)
+  lettered f (a ∷ s) (A ∷ w) t e = go (λ x q h. lettered f s x q h) (M .rule A a) refl e
+    where
+      on : (q : T) (o : Option T) → ((t : T) → o ≡ Some t → Each Letter s) → shift 𝓣 q o ≡ Some t → Each Letter s
+      on q None ih e = absurd (none-some e)
+      on q (Some t) ih e = ih t refl
+
+      go : ((x : Word) (q : T) → takes 𝓣 M x s ≡ Some q → Each Letter s) → (o : Option (Weighted T)) → M .rule A a ≡ o → follow 𝓣 (λ x. takes 𝓣 M x s) (behind w o) ≡ Some t → Letter a × Each Letter s
+      go ih None d e = absurd (none-some e)
+      go ih (Some m) d e = (f .lettered A a (ap isSome d), on (m .tally) (takes 𝓣 M (m .word ++ w) s) (λ t h. ih (m .word ++ w) t h) e)
+
   -- what x and y take, x′ and y′ take
   same-over : (x x′ y y′ : Word) → Same 𝓣 M x x′ → Same 𝓣 M y y′ → (s : Input) (t : T) → takes 𝓣 M (x ++ y) s ≡ Some t → takes 𝓣 M (x′ ++ y′) s ≡ Some t
   same-over x x′ y y′ e d s t h =
@@ -153,6 +168,7 @@ word-laws 𝓣 = record {
   split = λ M x y s t e. split 𝓣 M s x y t e;
   prefix-free = prefix-free 𝓣;
   long-enough = λ M w s t e. long-enough 𝓣 M s w t e;
+  lettered = λ M f w s t e. lettered 𝓣 M f s w t e;
   congruence = congruence 𝓣;
   differ = differ-law 𝓣;
   same = same-law 𝓣;

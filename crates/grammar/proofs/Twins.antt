@@ -1,7 +1,7 @@
 -- Where a twin's rules come from, and what its words take. Assumes nothing.
 use mathlib.Core.Path.{_≡_, refl, sym, ap, ap₂, _∙_}
 use mathlib.Core.Bool.{Bool, true, false, cond}
-use mathlib.Core.List.{List, [], _∷_, _++_, map}
+use mathlib.Core.List.{[], _∷_, _++_, map}
 use Prim.Native.Nat.{ℕ, _+_, _-_, _≤_, _<_, min}
 use native.Mathlib.Omega.{arith}
 use lib.Dec.{ltb}
@@ -11,7 +11,7 @@ use Rattle.std.specs.Options.{isSome}
 use Rattle.std.specs.declared.option.Option.{Option}
 use Rattle.std.specs.declared.option.Option.the-variants.{Some, None}
 use Rattle.tally.specs.Group.{Group}
-use Rattle.grammar.specs.Meaning.{Word, Input, Weighted, Meaning, word-of, tally-of, Each, Below, WellFormed}
+use Rattle.grammar.specs.Meaning.{Word, Input, Weighted, Meaning, word-of, Each, Below, WellFormed}
 use Rattle.grammar.specs.Takes.{takes, behind, follow, shift}
 use Rattle.grammar.specs.Twinned.{kept, raised, renamed, twinned, Closed, TwinLaw}
 

@@ -8,18 +8,18 @@
 --
 -- Assumes nothing.
 use mathlib.Core.Path.{_≡_}
-use mathlib.Core.Bool.{Bool, cond}
-use mathlib.Core.List.{List, [], _∷_, _++_}
+use mathlib.Core.Bool.{cond}
+use mathlib.Core.List.{List, [], _++_}
 use mathlib.Core.Logic.{_↔_}
 use Prim.Native.Nat.{ℕ, _≤_}
 use lib.Dec.{ltb}
 use lib.ListN.{length}
 use Rattle.std.specs.declared.option.Option.{Option}
-use Rattle.std.specs.declared.option.Option.the-variants.{Some, None}
+use Rattle.std.specs.declared.option.Option.the-variants.{Some}
 use Rattle.std.specs.declared.result.Result.{Result}
 use Rattle.std.specs.declared.result.Result.the-variants.{Ok, Err}
 use Rattle.tally.specs.Group.{Group, total}
-use Rattle.grammar.specs.Meaning.{Word, Input, Meaning}
+use Rattle.grammar.specs.Meaning.{Word, Input, Meaning, Letter, Each, WellFormed}
 use Rattle.grammar.specs.Takes.{shift, takes, Differ, Same}
 use Rattle.grammar.specs.Derivation.{tallies, symbols, Derives}
 
@@ -46,6 +46,8 @@ pub record WordLaws {T : Type 0} (𝓣 : Group T) : Type 0 where
   pub prefix-free : (M : Meaning T) (w : Word) (s r : Input) (p q : T) → takes 𝓣 M w s ≡ Some p → takes 𝓣 M w (s ++ r) ≡ Some q → r ≡ []
   -- a word has at most as many symbols as an input that it takes has letters
   pub long-enough : (M : Meaning T) (w : Word) (s : Input) (t : T) → takes 𝓣 M w s ≡ Some t → length w ≤ length s
+  -- an input that is taken in a well-formed grammar is of letters only
+  pub lettered : (M : Meaning T) → WellFormed M → (w : Word) (s : Input) (t : T) → takes 𝓣 M w s ≡ Some t → Each Letter s
   -- sameness is a congruence for concatenation
   pub congruence : (M : Meaning T) (x x′ y y′ : Word) → Same 𝓣 M x x′ → Same 𝓣 M y y′ → Same 𝓣 M (x ++ y) (x′ ++ y′)
   -- to differ is not to take with the same tally, and to be the same is to differ on no input

@@ -7,20 +7,23 @@
 -- hit A a r        the record is for the symbol A and the letter a
 -- first-hit A a rs the first record for A and a
 -- listed n rs      the grammar of n symbols and the records rs
--- list-meaning g   the meaning of a list grammar
+-- Misses A a rs    no record of rs is for A and a
+-- FirstFor A a r rs  r is the first record of rs for A and a
+-- Gives n rs A a m  n symbols and the records rs give the rule m at A and a
+-- ListLaw n rs     the grammar has just the rules that its records give
 --
 -- Assumes nothing.
 use mathlib.Core.Path.{_≡_}
-use mathlib.Core.Bool.{Bool, true, false, cond, _&&_}
-use mathlib.Core.List.{List, [], _∷_, map}
-use Prim.Native.Nat.{ℕ, min}
+use mathlib.Core.Bool.{Bool, cond, _&&_}
+use mathlib.Core.List.{List, [], _∷_, _++_, map}
+use mathlib.Core.Logic.{_↔_}
+use Prim.Native.Nat.{ℕ, min, _<_}
 use lib.Dec.{eqb, ltb, leb}
 use lib.ListN.{take}
 use Rattle.std.specs.Options.{mapped}
-use Rattle.std.specs.Of.Vec.{vec-items}
 use Rattle.std.specs.declared.option.Option.{Option}
 use Rattle.std.specs.declared.option.Option.the-variants.{Some, None}
-use Rattle.grammar.specs.Meaning.{Word, Weighted, Meaning}
+use Rattle.grammar.specs.Meaning.{Word, Weighted, Meaning, Letter}
 use Rattle.grammar.specs.declared.records.RuleWord.{RuleWord}
 use Rattle.grammar.specs.declared.records.RuleRecord.{RuleRecord}
 
@@ -49,3 +52,25 @@ module _ {T : Type 0} where
     count = min 255 n;
     rule = λ A a. cond (ltb A (min 255 n) && letter a) (mapped of-record (first-hit A a rs)) None;
   }
+
+  abbrev pub Misses : ℕ → ℕ → List (RuleRecord T) → Type 0
+  Misses A a [] = Unit {0}
+  Misses A a (r ∷ rs) = (¬ ((r .symbol ≡ A) × (r .letter ≡ a))) × Misses A a rs
+
+  pub record FirstFor (A a : ℕ) (r : RuleRecord T) (rs : List (RuleRecord T)) : Type 0 where
+    pub front : List (RuleRecord T)
+    pub back : List (RuleRecord T)
+    pub parts : rs ≡ front ++ r ∷ back
+    pub symbol : r .symbol ≡ A
+    pub letter : r .letter ≡ a
+    pub misses : Misses A a front
+
+  pub record Gives (n : ℕ) (rs : List (RuleRecord T)) (A a : ℕ) (m : Weighted T) : Type 0 where
+    pub counted : A < min 255 n
+    pub lettered : Letter a
+    pub source : RuleRecord T
+    pub first : FirstFor A a source rs
+    pub rule : m ≡ of-record source
+
+  abbrev pub ListLaw : ℕ → List (RuleRecord T) → Type 0
+  ListLaw n rs = (A a : ℕ) (m : Weighted T) → (listed n rs .rule A a ≡ Some m) ↔ Gives n rs A a m

@@ -9,15 +9,15 @@
 --
 -- Assumes nothing.
 use mathlib.Core.Path.{_≡_}
-use mathlib.Core.Bool.{Bool, cond}
-use mathlib.Core.List.{List, [], _∷_, map}
+use mathlib.Core.Bool.{cond}
+use mathlib.Core.List.{map}
 use Prim.Native.Nat.{ℕ, _+_, _-_, _≤_, min}
 use lib.Dec.{ltb}
 use Rattle.std.specs.Options.{mapped}
 use Rattle.std.specs.declared.option.Option.{Option}
-use Rattle.std.specs.declared.option.Option.the-variants.{Some, None}
+use Rattle.std.specs.declared.option.Option.the-variants.{None}
 use Rattle.tally.specs.Group.{Group}
-use Rattle.grammar.specs.Meaning.{Word, Input, Weighted, Meaning, word-of, Below, WellFormed}
+use Rattle.grammar.specs.Meaning.{Word, Input, Weighted, Meaning, word-of, Below}
 use Rattle.grammar.specs.Takes.{takes}
 
 abbrev pub kept : ℕ → Word → Word

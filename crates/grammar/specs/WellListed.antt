@@ -1,17 +1,17 @@
 -- A list grammar's meaning is well-formed, whatever its records hold. Assumes nothing.
-use mathlib.Core.Path.{_≡_, refl, sym, _∙_}
+use mathlib.Core.Path.{_≡_, refl}
 use mathlib.Core.Bool.{Bool, true, false, cond, _&&_}
-use mathlib.Core.List.{List, [], _∷_, map}
-use Prim.Native.Nat.{ℕ, min, _≤_, _<_}
+use mathlib.Core.List.{List, [], _∷_}
+use Prim.Native.Nat.{ℕ, min, _≤_}
 use native.Mathlib.Omega.{arith}
-use lib.Dec.{eqb, ltb, leb}
+use lib.Dec.{ltb, leb}
 use lib.ListN.{length, take, length-take, length-map}
 use borrow.Author.Tests.{ltb-true, leb-true}
 use Rattle.std.proofs.shelf.Tests.{and-parts}
 use Rattle.std.specs.Options.{isSome, mapped}
 use Rattle.std.specs.declared.option.Option.{Option}
 use Rattle.std.specs.declared.option.Option.the-variants.{Some, None}
-use Rattle.grammar.specs.Meaning.{Word, Weighted, Meaning, Letter, word-of, Each, WellFormed}
+use Rattle.grammar.specs.Meaning.{Word, Weighted, word-of, Each, WellFormed}
 use Rattle.grammar.specs.Listed.{letter, capped, written, of-record, first-hit, listed}
 use Rattle.grammar.specs.declared.records.RuleWord.{RuleWord}
 use Rattle.grammar.specs.declared.records.RuleRecord.{RuleRecord}

@@ -1,19 +1,17 @@
 // Runs an input from a word over a bare grammar.
 ghost use mathlib.Core.Path.{_≡_};
 ghost use Prim.Native.Nat.{_≤_};
-ghost use Rattle.grammar.specs.Laws.{DerivationLaw, WordLaws, derived};
+ghost use Rattle.grammar.specs.Laws.{DerivationLaw, WordLaws, derived, max-input};
 ghost use Rattle.grammar.specs.Stacks.{held, Stepped};
 use crate::Grammar;
+use crate::stack::MAX_INPUT;
 use crate::stack::Stack;
 use tally::Tally;
-
-// The most letters of an input that is run.
-pub const MAX_INPUT: usize = 16_384;
 
 // One step with a letter, with `left` letters to come. None where no input can be taken this way:
 // the word is empty, there is no rule, or more symbols would be left than letters.
 fn step<G: Grammar>(g: &G, stack: &mut Stack, letter: u8, left: usize) -> Option<G::T>
-    ensures { λ r. ⌜ (left ≤ 16384 → Stepped (T·Tally .group) (G·Grammar .meaning (now (g .entry))) (held (now (stack .entry))) letter left (held (now (stack .exit))) r) ⌝ }
+    ensures { λ r. ⌜ (left ≤ max-input → Stepped (T·Tally .group) (G·Grammar .meaning (now (g .entry))) (held (now (stack .entry))) letter left (held (now (stack .exit))) r) ⌝ }
 {
     let symbol = stack.pop()?;
     if !g.has_rule(symbol, letter) {

@@ -7,21 +7,20 @@ use tally::Tally;
 
 mod derivation;
 mod list_grammar;
-mod list_records;
 mod records;
 mod stack;
 mod stack_moves;
 mod twin;
-mod twin_grammar;
 
-pub use derivation::MAX_INPUT;
 pub use derivation::derive;
+pub use list_grammar::ListGrammar;
 pub use list_grammar::ListGrammarGrammar;
-pub use list_records::ListGrammar;
 pub use records::RuleRecord;
 pub use records::RuleWord;
+pub use stack::MAX_INPUT;
 pub use twin::Twin;
-pub use twin_grammar::TwinGrammar;
+pub use twin::TwinGrammar;
+pub use twin::raise;
 
 // A grammar of any make. It answers five questions, each as a function of its one meaning.
 pub trait Grammar {

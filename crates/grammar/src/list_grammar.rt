@@ -1,23 +1,33 @@
-// The answers of a list grammar. A question looks through the records once.
+// List grammars. A question looks through the records once.
 ghost use mathlib.Core.Path.{_≡_};
-ghost use Prim.Native.Nat.{min};
 ghost use lib.ListN.{length, getD};
 ghost use Rattle.std.specs.Of.Vec.{vec-items};
 ghost use Rattle.std.specs.Options.{mapped};
-ghost use Rattle.grammar.specs.Listed.{letter, written, of-record, hit, first-hit, listed};
+ghost use Rattle.grammar.specs.Listed.{letter, written, of-record, hit, first-hit, listed, ListLaw};
 ghost use Rattle.grammar.specs.WellListed.{listed-wellformed};
 use crate::Grammar;
-use crate::list_records::ListGrammar;
 use crate::records::RuleRecord;
 use crate::records::RuleWord;
 use tally::Tally;
+
+// A grammar that is a count of symbols and a list of rule records. Of two records for one symbol
+// and letter the first counts; records at a symbol that is not below the count, or at a byte that
+// is no letter, mean nothing.
+#[derive(Drop)]
+pub struct ListGrammar<T> {
+    count: u8,
+    records: Vec<RuleRecord<T>>,
+}
+
+// A record has room for this many symbols.
+const RECORD_SYMBOLS: u8 = 5;
 
 impl RuleWord {
     // How many symbols count.
     fn len(self) -> u8
         ensures { λ r. ⌜ r ≡ length (written self) ⌝ }
     {
-        if self.length < 5 { self.length } else { 5 }
+        self.length.min(RECORD_SYMBOLS)
     }
 
     // The symbol at a place, 255 beyond those that count.
@@ -45,7 +55,7 @@ impl<T> RuleRecord<T> {
 fn is_letter(byte: u8) -> bool
     ensures { λ r. ⌜ r ≡ letter byte ⌝ }
 {
-    65 <= byte && byte <= 90
+    b'A' <= byte && byte <= b'Z'
 }
 
 // The first record for the symbol and the letter.
@@ -61,6 +71,15 @@ fn find<T: Tally>(records: &[RuleRecord<T>], symbol: u8, letter: u8) -> Option<R
 }
 
 impl<T: Tally> ListGrammar<T> {
+    // The grammar of a count and a list of records.
+    pub fn new(count: u8, records: Vec<RuleRecord<T>>) -> ListGrammar<T>
+        ensures count { λ r. ⌜ r .count ≡ count ⌝ }
+        ensures records { λ r. ⌜ vec-items (r .records) ≡ vec-items records ⌝ }
+        ensures law { λ _. ⌜ ListLaw count (vec-items records) ⌝ }
+    {
+        ListGrammar { count, records }
+    }
+
     // The record that gives the rule.
     fn rule(&self, symbol: u8, letter: u8) -> Option<RuleRecord<T>>
         ensures { λ r. ⌜ mapped of-record r ≡ listed (now (self .entry) .count) (vec-items (now (self .entry) .records)) .rule symbol letter ⌝ }

@@ -8,8 +8,10 @@ ghost use lib.ListN.{length};
 ghost use Rattle.std.specs.Options.{isSome};
 ghost use Rattle.std.specs.Vec.{listOf};
 ghost use Rattle.grammar.specs.Meaning.{word-of};
+ghost use Rattle.grammar.specs.Laws.{max-input};
 ghost use Rattle.grammar.specs.Stacks.{held};
 use crate::Grammar;
+use crate::stack::MAX_INPUT;
 use crate::stack::Stack;
 
 impl Stack {
@@ -18,22 +20,22 @@ impl Stack {
         ensures { λ r. ⌜ held r ≡ [] ⌝ }
     {
         Stack {
-            cells: [0; 16_384],
-            top: 16_384,
+            cells: [0; MAX_INPUT],
+            top: MAX_INPUT,
         }
     }
 
     // How many symbols it holds.
     pub(crate) fn len(&self) -> usize
         ensures value { λ r. ⌜ r ≡ length (held (now (self .entry))) ⌝ }
-        ensures bound { λ r. ⌜ r ≤ 16384 ⌝ }
+        ensures bound { λ r. ⌜ r ≤ max-input ⌝ }
     {
-        16_384 - self.top
+        MAX_INPUT - self.top
     }
 
     // One symbol more in front; a full stack stays as it is.
     pub(crate) fn push(&mut self, symbol: u8)
-        ensures { λ _. ⌜ held (now (self .exit)) ≡ cond (ltb (length (held (now (self .entry)))) 16384) (symbol ∷ held (now (self .entry))) (held (now (self .entry))) ⌝ }
+        ensures { λ _. ⌜ held (now (self .exit)) ≡ cond (ltb (length (held (now (self .entry)))) max-input) (symbol ∷ held (now (self .entry))) (held (now (self .entry))) ⌝ }
     {
         if self.top > 0 {
             self.top -= 1;
@@ -46,7 +48,7 @@ impl Stack {
         ensures word { λ r. ⌜ held (now (self .entry)) ≡ listOf r ++ held (now (self .exit)) ⌝ }
         ensures test { λ r. ⌜ isSome r ≡ ltb 0 (length (held (now (self .entry)))) ⌝ }
     {
-        if self.top >= 16_384 {
+        if self.top >= MAX_INPUT {
             return None;
         }
         let symbol = self.cells[self.top];
@@ -54,18 +56,18 @@ impl Stack {
         Some(symbol)
     }
 
-    // Puts a word in front, if there is room for it.
+    // Puts a word in front, where there is room for all of it.
     pub(crate) fn push_word(&mut self, word: &[u8])
-        ensures { λ _. ⌜ (length (now (word .entry)) + length (held (now (self .entry))) ≤ 16384 → held (now (self .exit)) ≡ now (word .entry) ++ held (now (self .entry))) ⌝ }
+        ensures { λ _. ⌜ (length (now (word .entry)) + length (held (now (self .entry))) ≤ max-input → held (now (self .exit)) ≡ now (word .entry) ++ held (now (self .entry))) ⌝ }
     {
         for k in (0..word.len()).rev() {
             self.push(word[k]);
         }
     }
 
-    // Puts the word of a rule in front, if there is room for it.
+    // Puts the word of a rule in front, where there is room for all of it.
     pub(crate) fn push_rule<G: Grammar>(&mut self, g: &G, symbol: u8, letter: u8)
-        ensures { λ _. ⌜ (length (word-of (G·Grammar .meaning (now (g .entry)) .rule symbol letter)) + length (held (now (self .entry))) ≤ 16384 → held (now (self .exit)) ≡ word-of (G·Grammar .meaning (now (g .entry)) .rule symbol letter) ++ held (now (self .entry))) ⌝ }
+        ensures { λ _. ⌜ (length (word-of (G·Grammar .meaning (now (g .entry)) .rule symbol letter)) + length (held (now (self .entry))) ≤ max-input → held (now (self .exit)) ≡ word-of (G·Grammar .meaning (now (g .entry)) .rule symbol letter) ++ held (now (self .entry))) ⌝ }
     {
         for k in (0..g.rule_len(symbol, letter)).rev() {
             self.push(g.rule_symbol(symbol, letter, k));

@@ -1,7 +1,7 @@
 -- What a tally is, and what a list of tallies comes to.
 --
 -- Group T       an abelian group on T, with decidable equality
--- total 𝓣 ts    the sum of the list ts, from the left end; zero where it is empty
+-- total 𝓣 ts    the sum of the list ts; zero where it is empty
 -- TotalLaws 𝓣   how sums of lists go together
 --
 -- Assumes nothing.

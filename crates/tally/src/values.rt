@@ -20,7 +20,7 @@ pub struct LastMm {
     ghost fits: { mm < 2 ^ 32 },
 }
 
-// Bit k tells whether the k-th thing came an odd number of times.
+// Bit k tells whether an odd number of the tallies that were added had bit k.
 #[derive(Clone, Copy, Debug)]
 pub struct OddOnes {
     pub bits: u32,

@@ -4,7 +4,6 @@ use native.Mathlib.Omega.{arith}
 use lib.ListN.{length, getD}
 use borrow.Author.Needs.{needs}
 use Rattle.std.specs.declared.option.Option.the-variants.{Some, None}
-use Rattle.grammar.specs.Stacks.{held}
 use Rattle.grammar.proofs.Takes.{too-long, word-laws}
 use Rattle.grammar.proofs.Leftmost.{takes-derives}
 use Rattle.grammar.proofs.Runs.{ran-more, ran-stuck, ran-all, derived-long, derived-short}

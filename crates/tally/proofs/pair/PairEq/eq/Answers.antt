@@ -1,5 +1,5 @@
 use borrow.Author.Needs.{needs}
-use mathlib.Core.Path.{ap, ap₂, sym, _∙_}
+use mathlib.Core.Path.{ap, ap₂}
 use Rattle.tally.specs.Makes.{pair-of}
 use Rattle.tally.proofs.pair.PairEq.eq.Needs as need
 
