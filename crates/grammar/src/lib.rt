@@ -10,6 +10,8 @@ mod list_grammar;
 mod records;
 mod stack;
 mod stack_moves;
+#[cfg(test)]
+mod tests;
 mod twin;
 
 pub use derivation::derive;

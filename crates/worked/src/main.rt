@@ -7,15 +7,16 @@ mod runs;
 mod seven;
 
 use grammar::Grammar;
+use grammar::ListGrammar;
 use grammar::ListGrammarGrammar;
 use grammar::MAX_INPUT;
 use grammar::Twin;
 use grammar::TwinGrammar;
 use outcome::Outcome;
-use raising::raise_word;
 use reading::Reading;
 use reading::next_line;
 use reading::read;
+use runs::outcome_in_second;
 use runs::outcome_of;
 use seven::seven_symbols;
 use std::error::AnyError;
@@ -32,57 +33,69 @@ fn shown(bytes: &[u8]) -> &str {
 }
 
 // Says what happened on a line.
-fn say(rt: &LibcRuntime, place: &str, line: &[u8], outcome: Outcome) -> Result<(), AnyError> {
-    let query = shown(line);
+fn say(rt: &LibcRuntime, place: &str, query: &str, outcome: Outcome) -> Result<(), AnyError> {
     match outcome {
         Outcome::Taken(mm) => println!(rt, "{place}: {query}: taken with {mm}")?,
         Outcome::NotTaken => println!(rt, "{place}: {query}: not taken")?,
-        Outcome::TooLong(letters) => println!(
-            rt,
-            "{place}: refused, an input of {letters} letters where {MAX_INPUT} are the most"
-        )?,
+        Outcome::TooLong(letters) => {
+            println!(
+                rt,
+                "{place}: refused, an input of {letters} letters where {MAX_INPUT} are the most"
+            )?
+        }
     }
     Ok(())
 }
 
-// Answers a line over a grammar, with the word's symbols raised by `by`.
+// Says what is wrong with a line.
+fn say_mistake(rt: &LibcRuntime, place: &str, query: &str, mistake: &str) -> Result<(), AnyError> {
+    println!(rt, "{place}: {query}: refused, {mistake}")?;
+    Ok(())
+}
+
+// Answers a line over a grammar.
 fn answer<G: Grammar<T = FootMm>>(
     rt: &LibcRuntime,
     g: &G,
-    by: u8,
     place: &str,
     line: &[u8],
 ) -> Result<(), AnyError> {
     let query = shown(line);
     match read(rt.alloc(), line)? {
-        Reading::Query(word, input) => {
-            let word = raise_word(rt.alloc(), &word, by)?;
-            say(rt, place, line, outcome_of(g, &word, input))?;
-        }
-        Reading::NoFields => println!(
-            rt,
-            "{place}: {query}: refused, not WORD INPUT with one space between"
-        )?,
-        Reading::NoWord => println!(
-            rt,
-            "{place}: {query}: refused, a name that is none of b c d e f k q"
-        )?,
+        Reading::Query(word, input) => say(rt, place, query, outcome_of(g, &word, input)),
+        Reading::NoFields => say_mistake(rt, place, query, "not WORD INPUT with one space between"),
+        Reading::NoWord => say_mistake(rt, place, query, "a name that is none of b c d e f k q"),
     }
-    Ok(())
 }
 
 // Answers every line of a text over a grammar.
 fn answer_all<G: Grammar<T = FootMm>>(
     rt: &LibcRuntime,
     g: &G,
-    by: u8,
     place: &str,
     text: &[u8],
 ) -> Result<(), AnyError> {
     let mut rest = text;
     while !rest.is_empty() {
         let (line, more) = next_line(rest);
-        answer(rt, g, by, place, line)?;
+        answer(rt, g, place, line)?;
+        rest = more;
+    }
+    Ok(())
+}
+
+// Answers the table over a twin, for words of its second grammar.
+fn answer_second(
+    rt: &LibcRuntime,
+    twin: &Twin<ListGrammar<FootMm>, ListGrammar<FootMm>>,
+) -> Result<(), AnyError> {
+    let mut rest = TABLE;
+    while !rest.is_empty() {
+        let (line, more) = next_line(rest);
+        if let Reading::Query(word, input) = read(rt.alloc(), line)? {
+            let outcome = outcome_in_second(rt.alloc(), twin, &word, input)?;
+            say(rt, "twin, second", shown(line), outcome)?;
+        }
         rest = more;
     }
     Ok(())
@@ -91,13 +104,13 @@ fn answer_all<G: Grammar<T = FootMm>>(
 fn run(rt: &LibcRuntime) -> Result<(), AnyError> {
     let heap = rt.alloc();
     let g = seven_symbols(heap)?;
-    answer_all(rt, &g, 0, "grammar", TABLE)?;
+    answer_all(rt, &g, "grammar", TABLE)?;
     let twin = Twin::new(seven_symbols(heap)?, seven_symbols(heap)?);
-    answer_all(rt, &twin, 0, "twin, first", TABLE)?;
-    answer_all(rt, &twin, g.count, "twin, second", TABLE)?;
+    answer_all(rt, &twin, "twin, first", TABLE)?;
+    answer_second(rt, &twin)?;
     let mut text = Vec::new(heap);
     rt.stdin().read_to_end(&mut text)?;
-    answer_all(rt, &g, 0, "input", &text)
+    answer_all(rt, &g, "line", &text)
 }
 
 fn main(rt: LibcRuntime) -> Result<(), AnyError> {

@@ -3,6 +3,7 @@ ghost use mathlib.Core.Path.{_≡_};
 ghost use Rattle.grammar.specs.Twinned.{raised};
 ghost use Rattle.std.specs.Of.Vec.{vec-items};
 ghost use Rattle.std.specs.Vec.{made};
+use grammar::raise;
 use std::alloc::AllocError;
 use std::alloc::Global;
 
@@ -12,7 +13,7 @@ pub fn raise_word(heap: Global, word: &[u8], by: u8) -> Result<Vec<u8>, AllocErr
 {
     let mut high = Vec::new(heap);
     for symbol in word {
-        high.push(symbol.saturating_add(by))?;
+        high.push(raise(*symbol, by))?;
     }
     Ok(high)
 }

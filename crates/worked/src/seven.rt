@@ -2,17 +2,18 @@
 ghost use mathlib.Core.Path.{_≡_};
 ghost use Rattle.std.specs.Of.Vec.{vec-items};
 ghost use Rattle.std.specs.Vec.{made};
-ghost use Rattle.worked.specs.Seven.{rule, seven-rules, Examples};
+ghost use Rattle.worked.specs.Seven.{entry, seven-rules, Examples};
 use grammar::ListGrammar;
 use grammar::RuleRecord;
 use grammar::RuleWord;
 use std::alloc::AllocError;
 use std::alloc::Global;
 use tally::FootMm;
+use tally::FootTally;
 
 // The record of a rule.
 fn record(symbol: u8, letter: u8, length: u8, symbols: [u8; 5], mm: u32) -> RuleRecord<FootMm>
-    ensures { λ r. ⌜ r ≡ rule symbol letter length symbols mm ⌝ }
+    ensures { λ r. ⌜ r ≡ entry symbol letter length symbols mm ⌝ }
 {
     let word = RuleWord { length, symbols };
     let tally = FootMm { mm };
@@ -45,5 +46,5 @@ pub fn seven_symbols(heap: Global) -> Result<ListGrammar<FootMm>, AllocError>
         record(6, b'P', 1, [0, 0, 0, 0, 0], 0),
     ];
     let records = Vec::from_slice(heap, &rules)?;
-    Ok(ListGrammar { count: 7, records })
+    Ok(ListGrammar::new(7, records))
 }

@@ -1,10 +1,8 @@
 use mathlib.Core.Path.{_≡_, sym, ap, _∙_}
 use mathlib.Core.List.{List, [], _∷_, _++_, map-append}
 use Prim.Native.Nat.{ℕ, _+_, _<_, min}
-use native.Mathlib.Omega.{arith}
 use lib.ListN.{length, getD, take}
 use lib.Seq.{take-all}
-use borrow.Author.Needs.{needs}
 use Rattle.std.proofs.shelf.Lists.{take-more}
 use Rattle.grammar.specs.Twinned.{raised}
 use Rattle.std.specs.Of.Vec.{vec-items}
@@ -18,7 +16,7 @@ more n w v i A h was e =
 pub loop-symbol-again : need.loop-symbol-again
 loop-symbol-again c =
     let l = c .loop-symbol in
-    c .in-Continue-push .ensures tt .items ∙ more (c .args .by) (c .args .word .now) (vec-items (l .high)) (l .symbol-index) (c .saturating-add .result) (c .loop-symbol-test .taken) (l .inv) (search needs)
+    c .in-Continue-push .ensures tt .items ∙ more (c .args .by) (c .args .word .now) (vec-items (l .high)) (l .symbol-index) (c .raise .result) (c .loop-symbol-test .taken) (l .inv) (c .raise .ensures)
 
 pub returns : need.returns
 returns c = c .loop-symbol .inv ∙ ap (raised (c .args .by)) (take-all _ _ (c .loop-symbol-test .left))

@@ -1,6 +1,5 @@
 use mathlib.Core.Path.{ap}
 use borrow.Author.Needs.{needs}
-use native.Mathlib.Omega.{arith}
 use Rattle.tally.specs.Makes.{foot-same}
 use Rattle.tally.specs.declared.values.FootMm.{FootMm}
 use Rattle.grammar.specs.declared.records.RuleRecord.{RuleRecord}
