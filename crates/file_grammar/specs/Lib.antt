@@ -1,0 +1,4 @@
+pub mod Filed
+pub mod Tabled
+pub mod WellTabled
+pub mod Placed

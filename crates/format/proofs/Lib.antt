@@ -1,0 +1,10 @@
+pub mod Slices
+pub mod Loops
+pub mod Absent
+pub mod Rowwise
+pub mod Skips
+pub mod Items
+pub mod Stages
+pub mod Kinship
+pub mod Writes
+pub mod Low

@@ -1,0 +1,9 @@
+pub mod Steps
+pub mod Ordered
+pub mod Numbers
+pub mod Blame
+pub mod Sections
+pub mod Complete
+pub mod Whole
+pub mod Law
+pub mod Examples
