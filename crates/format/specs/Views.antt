@@ -5,9 +5,10 @@
 -- took-list r   the same where the value is a lent list
 --
 -- Assumes nothing.
+use mathlib.Core.Bool.{true}
 use mathlib.Core.List.{List, [], _∷_}
 use mathlib.Core.Path.{_≡_}
-use Prim.Native.Nat.{ℕ}
+use Prim.Native.Nat.{ℕ, _<_}
 use lib.ListN.{length}
 use denote.Ref.{RefT, now}
 use Rattle.std.specs.declared.option.Option.{Option}
@@ -15,7 +16,7 @@ use Rattle.std.specs.declared.option.Option.the-variants.{Some, None}
 use Rattle.std.specs.declared.result.Result.{Result}
 use Rattle.std.specs.declared.result.Result.the-variants.{Ok, Err}
 use Rattle.layout.specs.Contents.{FileRule, FileRow, Contents, joined, rule-bytes, row-bytes}
-use Rattle.layout.specs.Reading.{Read}
+use Rattle.layout.specs.Reading.{Read, row, row-follows}
 use Rattle.format.specs.declared.row.Row.{Row}
 use Rattle.format.specs.declared.row.Section.{Section}
 use Rattle.format.specs.declared.row.Checked.{Checked}
@@ -81,3 +82,8 @@ pub record Shows (v : Checked) (c : Contents) : Type 0 where
 abbrev pub Answers : Result Contents Fault → Result Checked Fault → Type 0
 Answers o (Ok v) = (c : Contents) × (o ≡ Ok c) × Shows v c
 Answers o (Err f) = o ≡ Err f
+
+-- the symbol A of a row that bs begin with is below n and after the rows xs; or f is the fault of the row
+abbrev pub Judged : ℕ → ℕ → List FileRow → ℕ → List ℕ → Result (Unit {0}) Fault → Type 0
+Judged total n xs A bs (Ok _) = (A < n) × (row-follows xs A ≡ true)
+Judged total n xs A bs (Err f) = (cs : List ℕ) → bs ≡ A ∷ cs → row total n xs bs ≡ Err f

@@ -4,7 +4,7 @@ ghost use mathlib.Core.List.{List};
 ghost use Rattle.std.specs.Options.{mapped};
 ghost use Rattle.layout.specs.Contents.{FileRow, row-bytes};
 ghost use Rattle.layout.specs.Reading.{row, rows, row-follows};
-ghost use Rattle.format.specs.Views.{took-row, newest, TookItems};
+ghost use Rattle.format.specs.Views.{took-row, newest, Judged, TookItems};
 use crate::fields::count_within;
 use crate::fields::place_of;
 use crate::lists::word_of;
@@ -22,7 +22,27 @@ fn comes_after(before: Option<u8>, symbol: u8) -> bool
     }
 }
 
-// A row: its symbol, after the one before it, its length 1 to 64 and that many symbols.
+// Judges the symbol of the row that the bytes begin with: below `count`, and after the row before it.
+fn judge_symbol(
+    total: usize,
+    bytes: &[u8],
+    symbol: u8,
+    count: u8,
+    before: Option<u8>,
+) -> Result<(), Fault>
+    ensures { λ r. ⌜ ((xs : List FileRow) → mapped (λ x. x .symbol) (newest xs) ≡ before → Judged total count xs symbol (now (bytes .entry)) r) ⌝ }
+{
+    if symbol >= count {
+        return Err(Fault::Symbol(place_of(total, bytes)));
+    }
+    if !comes_after(before, symbol) {
+        return Err(Fault::Order(place_of(total, bytes)));
+    }
+    Ok(())
+}
+
+// A row: its symbol, after the one before it, its length 1 to 64 and that many symbols. A wrong symbol
+// is told before the bytes are found to end.
 fn row_after(
     total: usize,
     bytes: &[u8],
@@ -31,24 +51,22 @@ fn row_after(
 ) -> Result<(Row<'_>, &[u8]), Fault>
     ensures { λ r. ⌜ ((xs : List FileRow) → mapped (λ x. x .symbol) (newest xs) ≡ before → took-row r ≡ row total count xs (now (bytes .entry))) ⌝ }
 {
-    let [symbol, after @ ..] = bytes else {
-        return Err(Fault::Short(total));
-    };
-    if *symbol >= count {
-        return Err(Fault::Symbol(place_of(total, bytes)));
+    match bytes {
+        [symbol, length, rest @ ..] => {
+            judge_symbol(total, bytes, *symbol, count, before)?;
+            if *length < 1 || *length > 64 {
+                return Err(Fault::Limit(place_of(total, bytes.split_at(1).1)));
+            }
+            let (word, left) = word_of(total, rest, count, *length)?;
+            let symbol = *symbol;
+            Ok((Row { symbol, word }, left))
+        }
+        [symbol] => {
+            judge_symbol(total, bytes, *symbol, count, before)?;
+            Err(Fault::Short(total))
+        }
+        [] => Err(Fault::Short(total)),
     }
-    if !comes_after(before, *symbol) {
-        return Err(Fault::Order(place_of(total, bytes)));
-    }
-    let [_, length, rest @ ..] = bytes else {
-        return Err(Fault::Short(total));
-    };
-    if *length < 1 || *length > 64 {
-        return Err(Fault::Limit(place_of(total, after)));
-    }
-    let (word, left) = word_of(total, rest, count, *length)?;
-    let symbol = *symbol;
-    Ok((Row { symbol, word }, left))
 }
 
 // The section of rows over `count` symbols.
