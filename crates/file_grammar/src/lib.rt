@@ -1,4 +1,6 @@
 // The grammar that a file holds: a table of the rules' places over the file's bytes.
+#![tactic(auto)]
+
 mod answers;
 mod fill;
 mod places;

@@ -1,4 +1,6 @@
 // The file: its check, its canonical bytes, and the grammar that it holds.
+#![tactic(auto)]
+
 mod check;
 mod contents;
 mod encode;

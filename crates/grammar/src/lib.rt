@@ -1,4 +1,6 @@
 // Weighted simple grammars: words, the inputs they take, and the makes of grammars.
+#![tactic(auto)]
+
 ghost use Rattle.std.specs.Prelude.{◌≡◌, length, is_some, slice_index_or};
 ghost use Rattle.grammar.specs.Meaning.{Meaning, WellFormed, word_of, tally_of};
 

@@ -1,6 +1,8 @@
 // Prints files readably, each part with its place in the bytes, or one line `refused N A B`.
 // Arguments name the files, each printed below a line with its name; a minus sign, as well as no
 // argument, stands for standard input.
+#![tactic(auto)]
+
 mod kinds;
 mod parts;
 #[cfg(test)]

@@ -1,5 +1,7 @@
 // The layout of a file: its contents, the bytes that encode them, what can be wrong with bytes, and
 // the laws of reading. Definitions and theorems; the code that reads and writes is the crate above.
+#![tactic(auto)]
+
 ghost use Rattle.std.specs.Prelude.{ℕ, List};
 ghost use Rattle.layout.specs.Laws.{Bytes, FileLaw, OneContents, AnyLaw};
 

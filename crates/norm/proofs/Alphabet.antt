@@ -1,5 +1,5 @@
 -- The order of the alphabet on inputs. Assumes nothing.
-use Rattle.std.proofs.Common.{◌≡◌, ℕ, suc, ◌<◌, ◌⊎◌, [], ◌∷◌, ◌++◌, length, sym, refl, ap₂, inl, inr, arith}
+use Rattle.std.proofs.Common.{◌≡◌, ℕ, [], ◌∷◌, ◌++◌, length, refl, ap₂, inl, inr, arith}
 use Rattle.grammar.specs.Meaning.{Input}
 use Rattle.norm.specs.Norms.{NoLater}
 

@@ -1,9 +1,9 @@
 -- The best rule of a symbol, letter by letter. Assumes nothing.
-use Rattle.std.proofs.Common.{◌≡◌, ℕ, suc, ◌+◌, ◌<◌, ◌≤◌, Bool, true, false, cond, ◌&&◌, ltb, leb, ◌⊎◌, List, Some, None, Option, sym, refl, ap, ◌∙◌, inl, inr, ⊎_elim, arith, below_more, leb-false, leb-true}
-use Rattle.std.proofs.lemmas.Bool.{cases_lt, and_right, and_left, and_parts, lt-leb, cond-false}
+use Rattle.std.proofs.Common.{◌≡◌, ℕ, suc, ◌+◌, ◌<◌, ◌≤◌, ltb, leb, List, None, Option, ⊎_elim, arith, below_more}
+use Rattle.std.proofs.lemmas.Bool.{cases_lt, and_right, and_left, lt-leb, cond-false}
 use Rattle.grammar.specs.Listed.{letter}
 use Rattle.norm.specs.Words.{Words}
-use Rattle.norm.specs.Tabled.{held, index, stored}
+use Rattle.norm.specs.Tabled.{stored}
 use Rattle.norm.specs.Measured.{makes, Best}
 use Rattle.norm.specs.declared.short_word.ShortWord.{ShortWord}
 

@@ -3,12 +3,12 @@
 -- The idea: all three recursions look at the rule of the first symbol at the first letter, so each fact is an induction over the input with that rule by cases.
 --
 -- Assumes nothing.
-use Rattle.std.proofs.Common.{◌≡◌, ℕ, ◌↔◌, [], ◌∷◌, ◌++◌, Some, None, Option, sym, refl, ap, ◌∙◌, append-nil, arith}
+use Rattle.std.proofs.Common.{◌≡◌, ℕ, ◌↔◌, [], ◌∷◌, ◌++◌, Some, None, Option, sym, refl, ap, ◌∙◌, arith}
 use Rattle.tally.specs.Group.{Group}
-use Rattle.grammar.specs.Meaning.{Word, Input, Weighted, Meaning, word_of}
-use Rattle.grammar.specs.Takes.{behind, step, shift, follow, takes}
+use Rattle.grammar.specs.Meaning.{Word, Input, Weighted, Meaning}
+use Rattle.grammar.specs.Takes.{behind, shift, follow, takes}
 use Rattle.grammar.proofs.Options.{none_some, some_same}
-use Rattle.norm.specs.Words.{raised, onward, ran, words_of, body, passed, reads}
+use Rattle.norm.specs.Words.{raised, onward, ran, words_of, body, reads}
 use Rattle.norm.specs.Norms.{Taken}
 
 -- the word of a rule that is there

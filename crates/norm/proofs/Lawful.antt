@@ -4,7 +4,7 @@
 -- So the symbols' first inputs, one behind the other, are the word's. A step takes one letter off an input, so norms fall by at most one.
 --
 -- Assumes nothing.
-use Rattle.std.proofs.Common.{◌≡◌, ℕ, suc, ◌+◌, ◌<◌, ◌≤◌, true, ◌⊎◌, [], ◌∷◌, ◌++◌, length, is_some, Some, None, Option, sym, refl, ap, ◌∙◌, subst, inl, inr, append-nil, arith, length-append}
+use Rattle.std.proofs.Common.{◌≡◌, ℕ, suc, ◌+◌, ◌<◌, ◌≤◌, [], ◌∷◌, ◌++◌, length, is_some, Some, None, Option, sym, refl, ap, ◌∙◌, subst, append-nil, arith, length-append}
 use Rattle.tally.specs.Group.{Group}
 use Rattle.grammar.specs.Meaning.{Word, Input, Weighted, Meaning, Below, WellFormed, word_of}
 use Rattle.grammar.specs.Takes.{behind, step, shift, takes}
@@ -12,7 +12,7 @@ use Rattle.grammar.proofs.Options.{none_some, some_same}
 use Rattle.grammar.proofs.Takes as word_laws
 use Rattle.norm.specs.Words.{raised, onward, ran}
 use Rattle.norm.specs.Norms.{NoLater, Taken, First, Normed, norms, firsts, Closed}
-use Rattle.norm.specs.Laws.{NormLaws, NormsLaw, OneNormed}
+use Rattle.norm.specs.Laws.{NormLaws}
 use Rattle.norm.proofs.Alphabet.{no_later_both, no_later_behind, no_later_tail}
 use Rattle.norm.proofs.Bridges.{taken_step, step_taken, run_takes}
 use Rattle.norm.proofs.Weights.{norms_append, firsts_append, each_append}

@@ -10,9 +10,9 @@ use Rattle.std.proofs.lemmas.List.{get_or_default}
 use Rattle.std.proofs.lemmas.Bool.{cases_eq}
 use Rattle.std.proofs.lemmas.List.Sums.{sum_by-set}
 use Rattle.grammar.specs.Meaning.{Word, Input, Each, Below}
-use Rattle.grammar.proofs.Options.{none_some, some_same}
+use Rattle.grammar.proofs.Options.{none_some}
 use Rattle.norm.specs.Words.{Words, body, passed, reads, Lives}
-use Rattle.norm.specs.Measured.{measure, through, makes, Best, Reached, Settled}
+use Rattle.norm.specs.Measured.{measure, makes, Best, Reached}
 use Rattle.norm.proofs.Along.{along_each, along_less}
 
 -- what holds at each place holds of each symbol

@@ -4,12 +4,12 @@
 -- A symbol without a measure has only rules through such symbols, so no word with one of them ends.
 --
 -- Assumes nothing.
-use Rattle.std.proofs.Common.{◌≡◌, ℕ, suc, ◌+◌, ◌<◌, ◌≤◌, true, false, cond, ◌&&◌, ltb, ◌≢◌, ◌⊎◌, List, [], ◌∷◌, ◌++◌, length, get_or, set, is_some, Some, None, Option, sym, refl, ap, ◌∙◌, subst, inl, inr, ⊎_elim, arith, get_or-set_other, get_or-set_same, below_more, ltb-true}
+use Rattle.std.proofs.Common.{◌≡◌, ℕ, suc, ◌+◌, ◌<◌, ◌≤◌, true, false, cond, ◌&&◌, ltb, ◌⊎◌, List, [], ◌∷◌, ◌++◌, length, get_or, set, is_some, Some, None, Option, sym, refl, ap, subst, inl, inr, ⊎_elim, arith, get_or-set_other, get_or-set_same, below_more, ltb-true}
 use Rattle.std.proofs.lemmas.Bool.{cases_lt, and_parts}
 use Rattle.grammar.specs.Meaning.{Word, Input, Each, Below}
 use Rattle.grammar.specs.Listed.{letter}
 use Rattle.grammar.proofs.Options.{none_some}
-use Rattle.norm.specs.Words.{Words, body, reads, Lives, Barren}
+use Rattle.norm.specs.Words.{Words, body, reads, Barren}
 use Rattle.norm.specs.Norms.{norms}
 use Rattle.norm.specs.Tabled.{stored}
 use Rattle.norm.specs.Certified.{Certified, spelled}

@@ -3,15 +3,14 @@
 -- The idea: following the first letters uses up one of the norm with each letter, so the letters of a concatenation are those of its parts.
 --
 -- Assumes nothing.
-use Rattle.std.proofs.Common.{◌≡◌, ℕ, zero, suc, ◌+◌, ◌<◌, ◌≤◌, true, List, [], ◌∷◌, ◌++◌, length, get_or, take, drop, set, is_some, Some, None, Option, sym, refl, ap, ◌∙◌, subst, ap₂, append_assoc, add-one, arith, length-append, length-drop, length-set, take_all}
-use Rattle.std.proofs.lemmas.List.{take_more, take_more_set, drop_more, drop_all}
-use Rattle.grammar.specs.Meaning.{Word, Input, Each, Below}
+use Rattle.std.proofs.Common.{◌≡◌, ℕ, zero, suc, ◌+◌, ◌<◌, ◌≤◌, List, [], ◌∷◌, ◌++◌, length, get_or, take, drop, set, sym, refl, ap, ◌∙◌, append_assoc, arith, length-append, length-drop, length-set, take_all}
+use Rattle.std.proofs.lemmas.List.{take_more, take_more_set, drop_more}
+use Rattle.grammar.specs.Meaning.{Word, Input, Below}
 use Rattle.norm.specs.Words.{Words, body}
 use Rattle.norm.specs.Norms.{norms, firsts}
 use Rattle.norm.specs.Certified.{Certified, spelled}
 use Rattle.norm.specs.Skeletons.{rule_words, norm_at, letter_at, first_at}
 use Rattle.norm.specs.declared.skeleton.Skeleton.{Skeleton}
-use Rattle.norm.proofs.Certificates.{word_there}
 use Rattle.norm.proofs.Lowering.{each_from_places}
 use Rattle.norm.proofs.Weights.{norms_append, each_append}
 

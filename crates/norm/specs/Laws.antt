@@ -10,7 +10,7 @@ use Rattle.std.specs.Prelude.{◌≡◌, ℕ, suc, ◌+◌, ◌<◌, ◌≤◌, 
 use Rattle.tally.specs.Group.{Group}
 use Rattle.grammar.specs.Meaning.{Word, Input, Weighted, Meaning, Each, Below, WellFormed}
 use Rattle.grammar.specs.Takes.{step, takes}
-use Rattle.norm.specs.Words.{ran, Words, words_of, reads}
+use Rattle.norm.specs.Words.{ran, words_of}
 use Rattle.norm.specs.Norms.{Taken, First, Normed, norms, firsts, Closed}
 use Rattle.norm.specs.Certified.{Certified, spelled}
 

@@ -1,4 +1,6 @@
 // Norms and first inputs of symbols: their laws, and how they are measured over the words of rules.
+#![tactic(auto)]
+
 ghost use Rattle.norm.specs.Laws.{NormsLaw, OneNormed, CertificateLaw};
 
 use tally::Tally;

@@ -3,7 +3,7 @@
 -- The idea: the normal form of a symbol is a word of symbols that have no row, and not the empty one; so some symbol has no row.
 --
 -- Assumes nothing.
-use Rattle.std.proofs.Common.{◌≡◌, ℕ, zero, suc, ◌+◌, ◌<◌, ◌≤◌, [], ◌∷◌, ◌++◌, Some, None, Option, sym, refl, ap, ◌∙◌, arith}
+use Rattle.std.proofs.Common.{◌≡◌, ℕ, zero, suc, ◌+◌, ◌<◌, ◌≤◌, [], ◌∷◌, Some, None, Option, sym, refl, ap, ◌∙◌, arith}
 use native.Mathlib.Decide.{ℕ_discrete}
 use Rattle.tally.specs.Group.{Group}
 use Rattle.grammar.specs.Meaning.{Word, Weighted, Each, Below}

@@ -3,12 +3,12 @@
 -- The idea: with more rows a normal form is only continued, and alike for two words with one normal form.
 --
 -- Assumes nothing.
-use Rattle.std.proofs.Common.{◌≡◌, ℕ, List, [], ◌∷◌, ◌++◌, Some, None, Option, sym, refl, ap, ◌∙◌, subst, ap₂}
+use Rattle.std.proofs.Common.{◌≡◌, [], ◌∷◌, Some, None, Option, sym, ap, ◌∙◌}
 use Rattle.tally.specs.Group.{Group}
 use Rattle.grammar.specs.Meaning.{Word, Weighted}
 use Rattle.rows.specs.Sheets.{Sheet, Normal, normal_nil, normal_keep, normal_put, Joined, Meets, Extends}
 use Rattle.rows.specs.Laws.{Total}
-use Rattle.rows.proofs.Normals.{from, to, by, normal_once, normal_append}
+use Rattle.rows.proofs.Normals.{to, by, normal_once, normal_append}
 use Rattle.rows.proofs.Sound.{left_comm}
 
 module _ {T : Type 0} (𝓣 : Group T) (D E : Sheet T) (more : Extends D E) (total : Total 𝓣 E) where

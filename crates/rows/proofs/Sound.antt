@@ -3,16 +3,16 @@
 -- The idea: a word and its normal form step together, to words with one normal form again. So letter by letter they take the same, and what the sums differ by stays the same.
 --
 -- Assumes nothing.
-use Rattle.std.proofs.Common.{◌≡◌, ℕ, List, [], ◌∷◌, ◌++◌, Some, None, Option, sym, refl, ap, ◌∙◌, subst, ap₂, append_assoc, append-nil}
+use Rattle.std.proofs.Common.{◌≡◌, ℕ, [], ◌∷◌, ◌++◌, Some, None, Option, sym, refl, ap, ◌∙◌, append_assoc, append-nil}
 use mathlib.Core.Path.{◌≡⟨◌⟩◌, ◌∎}
 use Rattle.tally.specs.Group.{Group}
 use Rattle.tally.proofs.Totals.{right}
 use Rattle.grammar.specs.Meaning.{Word, Input, Weighted, Meaning}
 use Rattle.grammar.specs.Takes.{behind, step, shift, follow, takes, Same}
 use Rattle.grammar.proofs.Takes.{shift_shift}
-use Rattle.rows.specs.Sheets.{Sheet, Normal, normal_nil, normal_keep, normal_put, Joined, Meets, Agrees, TrueRow}
+use Rattle.rows.specs.Sheets.{Sheet, Normal, normal_nil, normal_keep, normal_put, Meets, Agrees, TrueRow}
 use Rattle.rows.specs.Laws.{Total}
-use Rattle.rows.proofs.Normals.{Filled, from, to, by, normal_once, normal_append, normal_plain, plain_normal, normal_filled}
+use Rattle.rows.proofs.Normals.{Filled, from, to, normal_once, normal_append, normal_plain, plain_normal, normal_filled}
 
 module _ {T : Type 0} (𝓣 : Group T) where
   pub left_comm : (a b c : T) → 𝓣.add a (𝓣.add b c) ≡ 𝓣.add b (𝓣.add a c)

@@ -1,11 +1,11 @@
 -- The laws of rows, put together. Assumes nothing.
-use Rattle.std.proofs.Common.{◌≡◌, ℕ, ◌<◌, ◌≤◌, true, false, ◌⊎◌, [], ◌∷◌, is_some, Some, None, Option, sym, refl, ap, ◌∙◌, subst, inl, inr, arith}
+use Rattle.std.proofs.Common.{◌≡◌, ℕ, ◌<◌, ◌≤◌, ◌⊎◌, [], ◌∷◌, is_some, Some, None, Option, sym, refl, ap, subst, inl, inr, arith}
 use Rattle.std.proofs.lemmas.Bool.{cases_lt}
 use Rattle.tally.specs.Group.{Group}
 use Rattle.grammar.specs.Meaning.{Word, Weighted, Meaning, Letter, WellFormed}
 use Rattle.grammar.specs.Takes.{behind, step}
-use Rattle.rows.specs.Sheets.{Sheet, unweighed, Meets, Agrees, SelfProving, Proves, Ranked, Extends}
-use Rattle.rows.specs.Laws.{RowLaws, RowsLaw}
+use Rattle.rows.specs.Sheets.{Sheet, Meets, Agrees, SelfProving}
+use Rattle.rows.specs.Laws.{RowsLaw}
 use Rattle.rows.proofs.Normals.{normal_once, rows_filled, ranked_total}
 use Rattle.rows.proofs.Sound.{true_row, same_words}
 use Rattle.rows.proofs.More.{alike_more, meets_more}

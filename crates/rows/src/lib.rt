@@ -1,4 +1,6 @@
 // Sheets of rows: normal forms, agreement, and why rows that agree are true. Definitions and theorems; the code of sheets is the crate above.
+#![tactic(auto)]
+
 ghost use Rattle.rows.specs.Laws.{RowsLaw};
 
 use tally::Tally;

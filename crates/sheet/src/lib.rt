@@ -1,4 +1,6 @@
 // Sheets: a table of rows with marks.
+#![tactic(auto)]
+
 mod marks;
 mod row;
 

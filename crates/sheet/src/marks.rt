@@ -1,6 +1,6 @@
 // Which symbols have a row: a bit for each.
 ghost use Rattle.std.specs.Prelude.{◌≡◌, ℕ, ◌^◌, ◌<◌, ◌≤◌, true, false, ◌&&◌, ◌||◌, MatchOption, ◌==◌, nat_lt};
-ghost use Rattle.sheet.specs.Marked.{has as set-in, number, Least};
+ghost use Rattle.sheet.specs.Marked.{has as set_in, number, Least};
 
 // How many rows there can be.
 pub const ROWS: u8 = 32;
@@ -22,14 +22,14 @@ impl Marks {
 
     // Whether the symbol is marked.
     pub fn has(&self, symbol: u8) -> bool
-        ensures { result ≡ set-in self.now.bits symbol }
+        ensures { result ≡ set_in self.now.bits symbol }
     {
         symbol < ROWS && (self.bits >> symbol) % 2 == 1
     }
 
     // Marks the symbol, and no other; one that has no row stays as it is.
     pub fn mark(&mut self, symbol: u8)
-        ensures { (A : ℕ) → set-in self.new.bits A ≡ (set-in self.old.bits A || (nat_lt symbol 32 && A == symbol)) }
+        ensures { (A : ℕ) → set_in self.new.bits A ≡ (set_in self.old.bits A || (nat_lt symbol 32 && A == symbol)) }
     {
         if symbol < ROWS {
             self.bits |= 1u32 << symbol;
@@ -45,7 +45,7 @@ impl Marks {
 
     // The smallest marked symbol from `from` on.
     pub fn next(&self, from: u8) -> Option<u8>
-        ensures { MatchOption result ((A : ℕ) → from ≤ A → set-in self.now.bits A ≡ false) (λ A. (A < 32) × Least self.now.bits from A) }
+        ensures { MatchOption result ((A : ℕ) → from ≤ A → set_in self.now.bits A ≡ false) (λ A. (A < 32) × Least self.now.bits from A) }
     {
         if from >= ROWS {
             return None;

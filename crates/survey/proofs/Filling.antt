@@ -3,11 +3,11 @@
 -- The idea: places count the rules in the order in which they are visited, so what holds of the places below k holds of the rules before that at k.
 --
 -- Assumes nothing.
-use Rattle.std.proofs.Common.{◌≡◌, ℕ, ◌+◌, ◌-◌, ◌*◌, ◌/◌, ◌%◌, ◌<◌, ◌≤◌, Bool, true, false, cond, ◌&&◌, ltb, leb, ◌⊎◌, List, [], ◌∷◌, length, get_or, set, is_some, Some, None, Option, sym, refl, ap, ◌∙◌, subst, inl, inr, ⊎_elim, arith, length-set, get_or-set_other, get_or-set_same, below_more, ltb-false, ltb-true, leb-false, leb-true}
+use Rattle.std.proofs.Common.{◌≡◌, ℕ, ◌+◌, ◌*◌, ◌/◌, ◌%◌, ◌<◌, ◌≤◌, true, false, ◌&&◌, ltb, leb, ◌⊎◌, List, length, get_or, set, is_some, Some, None, Option, sym, refl, ap, ◌∙◌, subst, inl, inr, ⊎_elim, arith, length-set, get_or-set_other, get_or-set_same, below_more, ltb-false, ltb-true, leb-false, leb-true}
 use Rattle.std.proofs.lemmas.Bool.{cases_Bool, cond-true, cond-false, and_parts, and_cases}
 use Rattle.std.specs.Option.{option_map}
 use Rattle.tally.specs.Group.{Group}
-use Rattle.grammar.specs.Meaning.{Word, Weighted, Meaning, WellFormed, Letter, Below, word_of}
+use Rattle.grammar.specs.Meaning.{Weighted, Meaning, WellFormed, Letter, Below, word_of}
 use Rattle.grammar.specs.Listed.{letter}
 use Rattle.norm.specs.Words.{words_of, body}
 use Rattle.norm.specs.Tabled.{held, index, stored}

@@ -3,22 +3,22 @@
 -- The idea: the table has the words of all rules, and so just the grammar's rules; its norms and letters are a certificate over those words, and a certificate gives norms and first inputs.
 --
 -- Assumes nothing.
-use Rattle.std.proofs.Common.{◌≡◌, ℕ, suc, ◌+◌, ◌*◌, ◌/◌, ◌%◌, ◌<◌, ◌≤◌, true, List, [], ◌∷◌, length, get_or, is_some, Some, None, Option, sym, refl, ap, ◌∙◌, subst, arith}
+use Rattle.std.proofs.Common.{◌≡◌, ℕ, ◌+◌, ◌*◌, ◌/◌, ◌%◌, ◌<◌, [], ◌∷◌, length, get_or, is_some, Some, None, Option, sym, refl, ap, ◌∙◌, subst, arith}
 use Rattle.std.proofs.lemmas.Option.{slice_get-get_or}
 use Rattle.std.specs.List.{slice_get}
 use Rattle.std.specs.Option.{option_map}
 use Rattle.tally.specs.Group.{Group}
-use Rattle.grammar.specs.Meaning.{Word, Input, Weighted, Meaning, tally_of}
-use Rattle.norm.specs.Words.{Words, words_of, body, reads, Lives, Barren}
-use Rattle.norm.specs.Norms.{Taken, First, Normed, norms}
-use Rattle.norm.specs.Tabled.{index, stored}
+use Rattle.grammar.specs.Meaning.{Word, Weighted, Meaning, tally_of}
+use Rattle.norm.specs.Words.{words_of}
+use Rattle.norm.specs.Norms.{First, Normed, norms}
+use Rattle.norm.specs.Tabled.{index}
 use Rattle.norm.specs.Certified.{Certified, spelled}
 use Rattle.norm.specs.Laws.{NormLaws}
 use Rattle.norm.proofs.Lawful.{norm_laws}
 use Rattle.norm.proofs.Certificates.{certificate_law}
 use Rattle.norm.specs.Skeletons.{letter_at}
 use Rattle.norm.proofs.Spelling.{skeleton_certified}
-use Rattle.survey.specs.Refusals.{Within, Accepted}
+use Rattle.survey.specs.Refusals.{Within}
 use Rattle.survey.specs.Surveyed.{weigh, words_in, surveyed, norm_in, first_in}
 use Rattle.survey.specs.WellSurveyed.{stored_tested, surveyed_closed, surveyed_wellformed}
 use Rattle.survey.specs.Laws.{Surveys, TakenUp}

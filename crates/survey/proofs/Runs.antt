@@ -1,10 +1,10 @@
 -- A run, letter by letter. Assumes nothing.
-use Rattle.std.proofs.Common.{◌≡◌, ℕ, ◌+◌, ◌*◌, ◌<◌, ◌≤◌, List, [], ◌∷◌, ◌++◌, length, get_or, drop, Some, None, Option, sym, refl, ap, ◌∙◌, subst, append-nil, arith, length-append}
+use Rattle.std.proofs.Common.{◌≡◌, ℕ, ◌+◌, ◌*◌, ◌<◌, ◌≤◌, [], ◌∷◌, ◌++◌, length, get_or, drop, Some, None, Option, sym, refl, ap, ◌∙◌, arith, length-append}
 use Rattle.std.proofs.lemmas.List.{drop_more, drop_all}
 use Rattle.tally.specs.Group.{Group}
 use Rattle.tally.proofs.Totals.{right}
 use Rattle.grammar.specs.Meaning.{Word, Input, Weighted, Meaning}
-use Rattle.grammar.specs.Takes.{behind, step}
+use Rattle.grammar.specs.Takes.{behind}
 use Rattle.norm.specs.Words.{raised, onward, ran}
 
 module _ {T : Type 0} (𝓣 : Group T) where

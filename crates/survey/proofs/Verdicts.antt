@@ -3,25 +3,24 @@
 -- The idea: of two rules that are not fine, with all before them fine, neither is before the other; of two symbols that take nothing, with all smaller ones taking something, neither is smaller.
 --
 -- Assumes nothing.
-use Rattle.std.proofs.Common.{◌≡◌, ℕ, ◌<◌, ◌≤◌, ◌⊎◌, List, [], ◌∷◌, length, Some, None, Option, sym, refl, ap, ◌∙◌, subst, ap₂, inl, inr, arith}
+use Rattle.std.proofs.Common.{◌≡◌, ℕ, ◌<◌, ◌⊎◌, List, [], ◌∷◌, Some, None, Option, sym, refl, ap, ◌∙◌, subst, inl, inr, arith}
 use Rattle.std.proofs.lemmas.Bool.{cases_order}
 use Rattle.tally.specs.Group.{Group}
-use Rattle.grammar.specs.Meaning.{Input, Meaning, Below, word_of}
+use Rattle.grammar.specs.Meaning.{Meaning}
 use Rattle.grammar.specs.Takes.{takes}
 use Rattle.grammar.proofs.Options.{none_some}
-use Rattle.norm.specs.Words.{words_of, reads, Lives, Barren}
+use Rattle.norm.specs.Words.{words_of, Lives, Barren}
 use Rattle.norm.specs.Measured as measured
-use Rattle.norm.specs.Norms.{Taken}
 use Rattle.norm.specs.Tabled.{stored}
 use Rattle.norm.specs.declared.short_word.ShortWord.{ShortWord}
 use Rattle.norm.specs.declared.fault.NormFault.{NormFault}
 use Rattle.norm.specs.declared.fault.NormFault.TheVariants as norm-faults
 use Rattle.norm.proofs.Bridges.{taken_reads, reads_taken}
-use Rattle.survey.specs.Refusals.{max_rule, Sized, Fine, BadRule, too_many, strays, Sooner, TakesSome, TakesNone, Within, Passes, Accepted, Refused, bad_count, bad_rule, no_input, too_long}
+use Rattle.survey.specs.Refusals.{Sized, Fine, BadRule, too_many, strays, Sooner, TakesSome, TakesNone, Within, Passes, Accepted, Refused, bad_count, bad_rule, no_input, too_long}
 use Rattle.survey.specs.Faults.{from_norms}
 use Rattle.survey.specs.Laws.{OneVerdict, TakenUp}
 use Rattle.survey.specs.declared.fault.GrammarFault.{GrammarFault}
-use Rattle.survey.specs.declared.fault.GrammarFault.TheVariants.{Count, LongRule, StraySymbol, NoInput, TooLong}
+use Rattle.survey.specs.declared.fault.GrammarFault.TheVariants.{NoInput, TooLong}
 
 -- the smaller of two that are first of their kind
 pub first_once : (P Q : ℕ → Type 0) → ((A : ℕ) → P A → ¬ Q A) → (A B : ℕ) → P A → P B → ((C : ℕ) → C < A → Q C) → ((C : ℕ) → C < B → Q C) → A ≡ B

@@ -1,8 +1,8 @@
 -- The rules of a survey: where there is a word there is a tally. Assumes nothing.
-use Rattle.std.proofs.Common.{◌≡◌, ℕ, zero, suc, ◌<◌, ◌≤◌, Bool, true, false, List, [], ◌∷◌, length, is_some, Some, None, Option, sym, refl, ap, ◌∙◌, ap₂, arith}
+use Rattle.std.proofs.Common.{◌≡◌, ℕ, zero, suc, ◌<◌, true, List, [], ◌∷◌, length, is_some, Some, None, Option, sym, refl, ap, ◌∙◌, ap₂, arith}
 use Rattle.std.specs.List.{slice_get}
 use Rattle.std.specs.Option.{option_map}
-use Rattle.grammar.specs.Meaning.{Word, Weighted, word_of, tally_of}
+use Rattle.grammar.specs.Meaning.{Word, word_of, tally_of}
 use Rattle.norm.specs.Tabled.{index}
 use Rattle.norm.specs.Words.{words_of}
 use Rattle.survey.specs.Surveyed.{weigh, words_in, surveyed}

@@ -1,10 +1,10 @@
 -- A survey's meaning is well-formed, and its rules name only its symbols. Proofs, which stand here since a ghost member gives them. Assumes nothing.
-use Rattle.std.specs.Prelude.{◌≡◌, ℕ, zero, suc, ◌<◌, ◌≤◌, Bool, true, false, cond, ◌&&◌, List, [], ◌∷◌, length, is_some, Some, None, Option, nat_le, nat_lt, slice_index, slice_index_or, refl}
-use Rattle.std.proofs.Common.{sym, ap, subst, ◌∙◌, arith, length-take, ltb-true, leb-true}
+use Rattle.std.specs.Prelude.{◌≡◌, ℕ, suc, ◌<◌, ◌≤◌, Bool, true, false, cond, ◌&&◌, List, [], ◌∷◌, length, is_some, Some, None, Option, nat_le, nat_lt, slice_index, slice_index_or, refl}
+use Rattle.std.proofs.Common.{arith, length-take, ltb-true, leb-true}
 use Rattle.std.proofs.lemmas.Bool.{and_parts}
 use Rattle.std.specs.List.{slice_get}
 use Rattle.std.specs.Option.{option_map}
-use Rattle.grammar.specs.Meaning.{Word, Weighted, Each, Below, Letter, WellFormed, word_of}
+use Rattle.grammar.specs.Meaning.{Word, Each, Below, Letter, WellFormed, word_of}
 use Rattle.grammar.specs.Listed.{letter}
 use Rattle.norm.specs.Words.{body}
 use Rattle.norm.specs.Tabled.{held, index, stored}

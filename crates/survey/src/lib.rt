@@ -1,4 +1,6 @@
 // Surveys: which grammars are accepted, and an accepted grammar as a table with norms and first inputs.
+#![tactic(auto)]
+
 mod answers;
 mod codes;
 mod fault;

@@ -42,7 +42,7 @@ fn rule_word<G: Grammar>(
 
 // The words of a grammar's rules; or the count, or the first rule, that it is refused for.
 pub(crate) fn rule_words<G: Grammar>(g: &G) -> Result<RuleWords, GrammarFault>
-    ensures { elim result [ Ok t ↦ TakenUp 32 (G.Grammar.meaning g.now) t.count t.words | Err f ↦ Refused 32 64 T-as-Tally.group (G.Grammar.meaning g.now) f ] }
+    ensures { elim result [ Ok t ↦ TakenUp 32 (G.Grammar.meaning g.now) t.count t.words | Err f ↦ Refused 32 64 G.T.Tally.group (G.Grammar.meaning g.now) f ] }
 {
     let count = g.count();
     if count == 0 || count > MAX_SYMBOLS {

@@ -1,4 +1,6 @@
 // Tallies: the values that are added up along a derivation.
+#![tactic(auto)]
+
 ghost use Rattle.std.specs.Prelude.{◌≡◌, Bool, Decides};
 ghost use Rattle.tally.specs.Group.{Group};
 

@@ -1,5 +1,5 @@
 // Pairs of any two tallies, part by part.
-ghost use Rattle.std.specs.Prelude.{◌≡◌, Decides};
+ghost use Rattle.std.specs.Prelude.{◌&&◌};
 ghost use Rattle.tally.specs.Makes.{pair_group};
 ghost use Rattle.std.specs.Cmp.Rules.{comparing};
 ghost use Rattle.std.proofs.Common.{rules};
@@ -8,7 +8,7 @@ use crate::Tally;
 use crate::values::Pair;
 
 impl<X: Tally, Y: Tally> PartialEq for Pair<X, Y> {
-    ghost equals = { λ p q b. Decides b (p ≡ q) };
+    ghost eq = { λ p q. X.PartialEq.eq p.0 q.0 && Y.PartialEq.eq p.1 q.1 };
 
     ghost laws = { Prim.search (comparing, rules) };
 

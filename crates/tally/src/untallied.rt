@@ -1,5 +1,5 @@
 // Untallied: the tally with one value.
-ghost use Rattle.std.specs.Prelude.{◌≡◌, Decides};
+ghost use Rattle.std.specs.Prelude.{true};
 ghost use Rattle.tally.specs.Makes.{untallied_group};
 ghost use Rattle.std.specs.Cmp.Rules.{comparing};
 ghost use Rattle.std.proofs.Common.{rules};
@@ -8,7 +8,7 @@ use crate::Tally;
 use crate::values::Untallied;
 
 impl PartialEq for Untallied {
-    ghost equals = { λ x y b. Decides b (x ≡ y) };
+    ghost eq = { λ _ _. true };
 
     ghost laws = { Prim.search (comparing, rules) };
 

@@ -1,5 +1,7 @@
 // The worked examples as a program: a table of words and inputs over the example grammar and over
 // its twin with itself, and then the lines of standard input, each of the form `WORD INPUT`.
+#![tactic(auto)]
+
 mod outcome;
 mod raising;
 mod reading;

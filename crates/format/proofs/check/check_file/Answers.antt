@@ -6,7 +6,7 @@ use Rattle.format.proofs.check.check_file.Goals as goal
 pub returns : goal.returns
 returns g c = record {
   value = c.parts.ensures;
-  law = file_law g.T.FileTally.kinds c.args.bytes.now (bytes_of c.args.bytes.now (λ i. (c.type-inv.bytes i).fits));
+  law = file_law g.T.FileTally.kinds c.args.bytes.now (bytes_of c.args.bytes.now (λ i. (c.type_inv.bytes i).fits));
   one = one_contents;
   examples = examples;
 }

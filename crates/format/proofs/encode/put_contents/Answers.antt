@@ -5,5 +5,5 @@ use Rattle.format.proofs.encode.put_contents.Goals as goal
 
 pub returns : goal.returns
 returns c =
-    let count = c.to-be-bytes.ensures ∙ two_same (length c.args.contents.now.rules.now % 65536) (omega arith) in
-    wrote_contents c.args.contents.now (omega arith) c.put-counted-at.ensures c.put-counted-at-2.ensures (wrote_as count c.put-at.ensures) c.put-rules-at.ensures c.put-at-2.ensures c.put-rows.ensures
+    let count = c.to_be_bytes.ensures ∙ two_same (length c.args.contents.now.rules.now % 65536) (omega arith) in
+    wrote_contents c.args.contents.now (omega arith) c.put_counted-at.ensures c.put_counted-at-2.ensures (wrote_as count c.put-at.ensures) c.put_rules-at.ensures c.put-at-2.ensures c.put_rows.ensures

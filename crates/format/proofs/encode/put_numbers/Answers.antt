@@ -13,8 +13,8 @@ loop-number-preserved c =
     let ns = c.args.numbers.now in
     let i = c.loop-number.number-index in
     let n = get_or ns i 0 in
-    let fits : n < 2 ^ 32 = omega (arith, c.type-inv.numbers i) in
-    let bytes = c.to-be-bytes.ensures ∙ four_same n fits in
+    let fits : n < 2 ^ 32 = omega (arith, c.type_inv.numbers i) in
+    let bytes = c.to_be_bytes.ensures ∙ four_same n fits in
     wrote_as (ap (joined four) (sym (take_more ns i 0 c.loop-number-test.true))) (wrote_more four (take i ns) n (omega arith) c.loop-number.invariant (wrote_as bytes c.put-at.ensures))
 
 pub returns : goal.returns

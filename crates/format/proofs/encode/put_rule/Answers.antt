@@ -7,6 +7,6 @@ use Rattle.format.proofs.encode.put_rule.Goals as goal
 pub returns : goal.returns
 returns c =
     let room : length c.args.out.now < 2 ^ 64 = omega arith in
-    let numbers = wrote_as (ap (joined four) c.front.ensures) c.put-numbers-at.ensures in
-    let word = wrote_as (ap counted c.front-2.ensures) c.put-counted.ensures in
+    let numbers = wrote_as (ap (joined four) c.front.ensures) c.put_numbers-at.ensures in
+    let word = wrote_as (ap counted c.front-2.ensures) c.put_counted.ensures in
     wrote_then room (wrote_then room c.put-at.ensures numbers) word

@@ -2,8 +2,8 @@ use Rattle.std.proofs.Common.{◌≡◌, ◌<◌, ◌≤◌, eqb, length, get_or
 use Rattle.format.proofs.Kinship.{other_count, other_first, no_kinds, one_kind, two_kinds}
 use Rattle.format.proofs.file_tally.has_kinds.Goals as goal
 
-pub returns-then-kind-count-kinds : goal.returns-then-kind-count-kinds
-returns-then-kind-count-kinds g c = λ few. sym (other_count g.T.FileTally.kinds c.args.kinds.now (λ e. omega arith))
+pub returns-then-kind_count-kinds : goal.returns-then-kind_count-kinds
+returns-then-kind_count-kinds g c = λ few. sym (other_count g.T.FileTally.kinds c.args.kinds.now (λ e. omega arith))
 
 pub returns-in-empty : goal.returns-in-empty
 returns-in-empty g c = λ few.

@@ -5,4 +5,4 @@ use Rattle.format.proofs.Loops.{Went}
 use Rattle.format.proofs.lists.kinds_section.Given as goal
 
 abbrev pub invariant-loop-k : goal.invariant-loop-k
-invariant-loop-k l = Went l.total (kind l.total) l.count l.body l.-k l.left × (newest (reverse (take l.-k l.body)) ≡ l.before)
+invariant-loop-k l = Went l.total (kind l.total) l.count l.body l._k l.left × (newest (reverse (take l._k l.body)) ≡ l.before)

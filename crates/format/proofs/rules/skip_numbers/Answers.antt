@@ -9,5 +9,5 @@ returns-then-bytes-size c = skips_short c.args.total c.args.kinds [] c.args.byte
 
 pub returns : goal.returns
 returns c =
-    ap {B = Result (Read (Unit {0})) Fault} (λ r. Ok (record { value = tt; rest = r })) c.split-at.ensures.back
+    ap {B = Result (Read (Unit {0})) Fault} (λ r. Ok (record { value = tt; rest = r })) c.split_at.ensures.back
     ∙ skips_all c.args.total c.args.kinds [] c.args.bytes.now c.if-bytes-size.false

@@ -4,17 +4,17 @@ use Rattle.grammar.specs.Stacks.{held}
 use Rattle.grammar.proofs.Runs.{stuck_long, stepped}
 use Rattle.grammar.proofs.derivation.step.Goals as goal
 
-pub returns-then-rule-len-len : goal.returns-then-rule-len-len
-returns-then-rule-len-len g c = λ room s e.
+pub returns-then-rule_len-len : goal.returns-then-rule_len-len
+returns-then-rule_len-len g c = λ room s e.
     let M = g.G.Grammar.meaning c.args.g.now in
-    stuck_long g.G.T.Tally.group M c.in-ok-symbol.symbol c.args.letter (held c.pop.new.self) _ s c.in-ok-symbol.ensures.word (omega arith)
+    stuck_long g.G.T.Tally.group M c.in_ok-symbol.symbol c.args.letter (held c.pop.new.self) _ s c.in_ok-symbol.ensures.word (omega arith)
 
 pub returns : goal.returns
 returns g c = λ room.
     let M = g.G.Grammar.meaning c.args.g.now in
-    let A = c.in-ok-symbol.symbol in
+    let A = c.in_ok-symbol.symbol in
     let w : Word = word_of (M.rule A c.args.letter) in
     let rest : Word = held c.pop.new.self in
-    let put = c.push-rule.ensures (omega arith) in
-    let few : length (held c.push-rule.new.self) ≤ c.args.left = omega (arith, ap length put, length-append w rest) in
-    (stepped g.G.T.Tally.group M A c.args.letter rest _ _ _ c.in-ok-symbol.ensures.word (search rules) put c.rule-tally.ensures, few)
+    let put = c.push_rule.ensures (omega arith) in
+    let few : length (held c.push_rule.new.self) ≤ c.args.left = omega (arith, ap length put, length-append w rest) in
+    (stepped g.G.T.Tally.group M A c.args.letter rest _ _ _ c.in_ok-symbol.ensures.word (search rules) put c.rule_tally.ensures, few)

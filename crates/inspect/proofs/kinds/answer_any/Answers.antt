@@ -8,5 +8,5 @@ use Rattle.inspect.proofs.kinds.answer_any.Goals as goal
 pub returns : goal.returns
 returns c =
     let bs = c.args.bytes.now in
-    as_stated (2 ∷ 3 ∷ []) bs c.check-file.result c.check-file.ensures.value
-    (one_fits bs (bytes_of bs (λ i. (c.type-inv.bytes i).fits)) c.in-default.ensures c.in-default-check-as.ensures c.in-default-check-as-2.ensures c.in-default-check-as-3.ensures c.in-default-check-as-4.ensures c.in-default-check-as-5.ensures)
+    as_stated (2 ∷ 3 ∷ []) bs c.check_file.result c.check_file.ensures.value
+    (one_fits bs (bytes_of bs (λ i. (c.type_inv.bytes i).fits)) c.in_default.ensures.own c.in_default-check_as.ensures.own c.in_default-check_as-2.ensures.own c.in_default-check_as-3.ensures.own c.in_default-check_as-4.ensures.own c.in_default-check_as-5.ensures.own)

@@ -8,7 +8,7 @@ pub loop-symbol-preserved : goal.loop-symbol-preserved
 loop-symbol-preserved c =
     let t = c.args.words.now in
     let l = c.loop-symbol in
-    let b = c.best-rule in
+    let b = c.best_rule in
     let size = l.invariant.0 in (
       length-set l.letters l.symbol b.result.letter ∙ size,
       filled_more (λ A x. (k : ℕ) × Best 64 (stored t.count t.words) (measure c.args.measures.now) A k x) l.letters l.symbol b.result.letter (omega arith) l.invariant.1 (b.result.measure, b.ensures),

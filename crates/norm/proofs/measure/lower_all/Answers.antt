@@ -1,4 +1,4 @@
-use Rattle.std.proofs.Common.{length, get_or, inl, inr, arith}
+use Rattle.std.proofs.Common.{inl, inr, arith}
 use Rattle.norm.specs.Words.{Words, body}
 use Rattle.norm.specs.Tabled.{stored}
 use Rattle.norm.proofs.Lowering.{each_from_places, passing_on}
@@ -10,7 +10,7 @@ loop-symbol-preserved c =
     let t = c.args.words.now in
     let R : Words = stored t.count t.words in
     let l = c.loop-symbol in
-    let b = c.best-rule-best in
+    let b = c.best_rule-best in
     let j = c.if-best-measures in
     passing_on 64 t.count R (λ A a. each_from_places _ (body (R A a)) (t.known A a)) c.args.measures.now
     l.symbol b.result.measure l.measures j.measures l.fell j.fell l.invariant (omega arith) b.result.letter b.ensures

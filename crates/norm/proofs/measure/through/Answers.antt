@@ -3,8 +3,8 @@ use Rattle.norm.specs.Measured.{measure, along}
 use Rattle.norm.proofs.Along.{along_over, along_more, along_all}
 use Rattle.norm.proofs.measure.through.Goals as goal
 
-pub returns-then-measure-gt-TOO-LONG : goal.returns-then-measure-gt-TOO-LONG
-returns-then-measure-gt-TOO-LONG c =
+pub returns-then-measure-gt-TOO_LONG : goal.returns-then-measure-gt-TOO_LONG
+returns-then-measure-gt-TOO_LONG c =
     let l = c.loop-symbol in
     sym (along_over 64 (measure c.args.measures.now) l.sum c.args.word.now l.symbol-index (omega arith) (omega arith)) ∙ l.invariant.0
 
@@ -13,7 +13,7 @@ loop-symbol-preserved c =
     let l = c.loop-symbol in
     let norm = measure c.args.measures.now in
     let w = c.args.word.now in
-    let m = c.measure-of-measure.ensures in
+    let m = c.measure_of-measure.ensures in
     let here : c.min-sum.result ≡ min (l.sum + norm (get_or w l.symbol-index 0)) 65 = c.min-sum.ensures ∙ ap (λ x. min (l.sum + x) 65) m in (
       ap (λ k. along 64 norm k (drop (l.symbol-index + 1) w)) here ∙ sym (along_more 64 norm l.sum w l.symbol-index (omega arith) (omega arith)) ∙ l.invariant.0,
       omega arith,

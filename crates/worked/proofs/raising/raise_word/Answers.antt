@@ -12,7 +12,7 @@ more n w v i A h was e =
 pub loop-symbol-preserved : goal.loop-symbol-preserved
 loop-symbol-preserved c =
     let l = c.loop-symbol in
-    c.in-ok-push.ensures.items ∙ more c.args.by c.args.word.now (vec_items l.high) l.symbol-index c.raise.result c.loop-symbol-test.true l.invariant c.raise.ensures
+    c.in_ok-push.ensures.items ∙ more c.args.by c.args.word.now (vec_items l.high) l.symbol-index c.raise.result c.loop-symbol-test.true l.invariant c.raise.ensures
 
 pub returns : goal.returns
 returns c = c.loop-symbol.invariant ∙ ap (raised c.args.by) (take_all _ _ c.loop-symbol-test.false)

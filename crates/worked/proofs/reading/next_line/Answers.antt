@@ -16,7 +16,7 @@ returns-in-Some c =
 pub returns-in-None : goal.returns-in-None
 returns-in-None c =
     let s = c.args.text.now in
-    let k = c.split-at.ensures in
+    let k = c.split_at.ensures in
     record {
       value = ap₂ {C = List ℕ × List ℕ} (λ x y. (x, y)) (k.front ∙ take-length s) (k.back ∙ drop_all _ s (le_refl _)) ∙ ap (λ o. unwrap_or o (s, [])) c.in-None.ensures;
       bound = λ h. omega arith;

@@ -18,5 +18,5 @@ pub returns : goal.returns
 returns g c = λ few.
     let M = g.G.Grammar.meaning c.args.twin.now.first in
     let N = g.H.Grammar.meaning c.args.twin.now.second in
-    let raised_word = c.deref.ensures.value ∙ c.in-ok-raised.ensures ∙ ap (λ n. raised n c.args.word.now) c.count.ensures in
+    let raised_word = c.deref.ensures.value ∙ c.in_ok-raised.ensures ∙ ap (λ n. raised n c.args.word.now) c.count.ensures in
     c.outcome_of.ensures ∙ ap outcome_of (derived_second foot_group M N (g.H.Grammar.wellformed c.args.twin.now.second) few c.args.word.now _ c.args.input.now raised_word)

@@ -11,4 +11,4 @@ returns c =
     more c.record.ensures (more c.record-2.ensures (more c.record-3.ensures (more c.record-4.ensures
     (more c.record-5.ensures (more c.record-6.ensures (more c.record-7.ensures (more c.record-8.ensures
     (more c.record-9.ensures (more c.record-10.ensures (more c.record-11.ensures (more c.record-12.ensures refl))))))))))) in
-    record { count = c.new.ensures.count; records = c.new.ensures.records ∙ c.in-ok-records.ensures.items ∙ same; examples = examples }
+    record { count = c.new.ensures.count; records = c.new.ensures.records ∙ c.in_ok-records.ensures.items ∙ same; examples = examples }

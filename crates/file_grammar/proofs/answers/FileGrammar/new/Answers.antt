@@ -7,4 +7,4 @@ returns-in-Ok g c =
     let made = g.T.FileTally.made in
     let found = c.in-Ok.ensures.value in
     let legal = ((c.in-Ok.ensures.law.accepted found.0).0 found.1).0 in
-    filed made c.table-of.result found.0 legal (c.table-of.ensures found.0 legal found.2) ks c.args.bytes.now found.1
+    filed made c.table_of.result found.0 legal (c.table_of.ensures found.0 legal found.2) ks c.args.bytes.now found.1

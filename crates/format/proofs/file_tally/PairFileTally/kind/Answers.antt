@@ -7,4 +7,4 @@ returns-then-at-count g c = λ h. c.kind.ensures h ∙ sym (get_or_append_left _
 
 pub returns-else-at-count : goal.returns-else-at-count
 returns-else-at-count g c = λ h.
-    c.kind-else-at-count.ensures (omega arith) ∙ sym (get_or-append_right g.X.FileTally.kinds g.Y.FileTally.kinds c.kind-count-count.result c.args.at 0 (omega arith) (omega arith))
+    c.kind-else-at-count.ensures (omega arith) ∙ sym (get_or-append_right g.X.FileTally.kinds g.Y.FileTally.kinds c.kind_count-count.result c.args.at 0 (omega arith) (omega arith))

@@ -11,4 +11,4 @@ pub returns-else-at-count : goal.returns-else-at-count
 returns-else-at-count g c = λ h.
     let p = c.args.self.now in
     let size = g.X.FileTally.lossless.size p.0 in
-    c.number-else-at-count.ensures (omega arith) ∙ sym (get_or-append_right (g.X.FileTally.numbers p.0) (g.Y.FileTally.numbers p.1) c.kind-count-count.result c.args.at 0 (omega arith) (omega arith))
+    c.number-else-at-count.ensures (omega arith) ∙ sym (get_or-append_right (g.X.FileTally.numbers p.0) (g.Y.FileTally.numbers p.1) c.kind_count-count.result c.args.at 0 (omega arith) (omega arith))

@@ -7,7 +7,7 @@ use Rattle.grammar.proofs.stack.Stack.push_rule.Goals as goal
 pub loop-k-init : goal.loop-k-init
 loop-k-init g c =
     let w : Word = word_of ((g.G.Grammar.meaning c.args.g.now).rule c.args.symbol c.args.letter) in
-    λ room. put_none w (held c.args.self.now) c.rule-len-k.result (search rules)
+    λ room. put_none w (held c.args.self.now) c.rule_len-k.result (search rules)
 
 pub loop-k-preserved : goal.loop-k-preserved
 loop-k-preserved g c =

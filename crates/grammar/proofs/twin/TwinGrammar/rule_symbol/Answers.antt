@@ -13,4 +13,4 @@ returns-then-symbol-count g c =
     let M = g.G.Grammar.meaning c.args.self.now.first in
     let N = g.H.Grammar.meaning c.args.self.now.second in
     let within : c.args.symbol < min 255 (M.count + N.count) = omega arith in
-    second_at M N c.args.symbol c.args.letter c.count-mid.result c.count-mid.ensures c.if-symbol-mid.false within c.args.at _ _ c.rule-symbol-then-symbol-count.ensures c.raise.ensures
+    second_at M N c.args.symbol c.args.letter c.count-mid.result c.count-mid.ensures c.if-symbol-mid.false within c.args.at _ _ c.rule_symbol-then-symbol-count.ensures c.raise.ensures

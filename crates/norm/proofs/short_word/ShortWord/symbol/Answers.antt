@@ -1,4 +1,4 @@
-use Rattle.std.proofs.Common.{length, take, sym, ◌∙◌, arith, length-take, get_or-take}
+use Rattle.std.proofs.Common.{take, sym, ◌∙◌, arith, length-take, get_or-take}
 use Rattle.std.proofs.lemmas.List.{get_or_default, get_or_past}
 use Rattle.norm.proofs.short_word.ShortWord.symbol.Goals as goal
 

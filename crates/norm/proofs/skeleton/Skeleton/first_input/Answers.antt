@@ -1,4 +1,4 @@
-use Rattle.std.proofs.Common.{◌≡◌, ℕ, ◌-◌, ◌≤◌, min, leb, List, ◌++◌, length, drop, Some, Option, sym, ap, ◌∙◌, subst, arith}
+use Rattle.std.proofs.Common.{◌≡◌, ℕ, ◌-◌, ◌≤◌, min, leb, ◌++◌, length, drop, Some, Option, sym, ap, ◌∙◌, arith}
 use borrow.Rule.Slice.PartMut.{mid_of, post_of, Post-is, mid_len}
 use Rattle.std.proofs.lemmas.Bool.{cond-true, le-leb}
 use Rattle.norm.specs.Norms.{norms, firsts}
@@ -12,9 +12,9 @@ returns c =
     let k = c.args.self.now in
     let w = c.args.word.now in
     let out = c.args.out.now in
-    let n = c.norm-of-norm.result in
-    let sum = c.norm-of-norm.ensures in
-    let small = c.if-norm-gt-WORD-CAPACITY.false in
+    let n = c.norm_of-norm.result in
+    let sum = c.norm_of-norm.ensures in
+    let small = c.if-norm-gt-WORD_CAPACITY.false in
     let room = c.if-norm-out.false in
     let is : n ≡ norms (norm_at k) w = omega arith in
     let fits : norms (norm_at k) w ≤ min 512 (length out) = omega arith in

@@ -1,5 +1,4 @@
-use Rattle.std.proofs.Common.{◌≡◌, ◌+◌, get_or, take, sym, ap, ◌∙◌, arith, take_all}
-use Rattle.norm.specs.Norms.{norms}
+use Rattle.std.proofs.Common.{ap, ◌∙◌, arith, take_all}
 use Rattle.norm.specs.Skeletons.{norm_at, summed}
 use Rattle.norm.proofs.Weights.{norms_more_symbol}
 use Rattle.norm.proofs.skeleton.Skeleton.norm_of.Goals as goal
@@ -11,7 +10,7 @@ loop-symbol-preserved c =
     let l = c.loop-symbol in
     let was = l.invariant in
     let one = c.norm.ensures in
-    let add = c.saturating-add-sum.ensures in
+    let add = c.saturating_add-sum.ensures in
     let more = norms_more_symbol (norm_at k) w l.symbol-index (omega arith) in
     omega arith
 

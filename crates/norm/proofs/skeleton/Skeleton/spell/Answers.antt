@@ -3,7 +3,7 @@ use Rattle.std.proofs.lemmas.List.{nil_from_length}
 use Rattle.grammar.specs.Meaning.{Word}
 use Rattle.grammar.specs.Stacks.{held}
 use Rattle.norm.specs.Words.{body}
-use Rattle.norm.specs.Skeletons.{rule_words, norm_at, letter_at}
+use Rattle.norm.specs.Skeletons.{rule_words, letter_at}
 use Rattle.norm.specs.declared.skeleton.Skeleton.{Skeleton}
 use Rattle.norm.proofs.Spelling.{long_enough, Spelt, spelt_none, spelt_left, spelt_room, spelt_more, spelt_all}
 use Rattle.norm.proofs.skeleton.Skeleton.spell.Goals as goal
@@ -36,31 +36,31 @@ loop-cell-init c = λ b e l.
     let fresh = c.new-left.ensures in
     let none = ap length fresh in
     let few = long_enough k w b in
-    let put : held c.push-word.new.self ≡ w = c.push-word.ensures (omega arith) ∙ ap (λ x. w ++ x) fresh ∙ append-nil w in
+    let put : held c.push_word.new.self ≡ w = c.push_word.ensures (omega arith) ∙ ap (λ x. w ++ x) fresh ∙ append-nil w in
     subst (λ x. Spelt k w (length out) 0 x out) (sym put) (spelt_none k w (length out) out b e (let z : length out ≡ length out = omega arith in z))
 
-pub returns-in-default : goal.returns-in-default
-returns-in-default c = λ b e l.
+pub returns-in_default : goal.returns-in_default
+returns-in_default c = λ b e l.
     let i = c.loop-cell in
     let out = c.args.out.now in
-    let none : held i.left ≡ [] = nil_from_length (held i.left) (let h = ltb-false 0 (length (held i.left)) (sym c.in-default.ensures.test) in omega arith) in
+    let none : held i.left ≡ [] = nil_from_length (held i.left) (let h = ltb-false 0 (length (held i.left)) (sym c.in_default.ensures.test) in omega arith) in
     absurd (spelt_left c.args.self.now c.args.word.now (length out) i.cell-index (held i.left) i.out (i.invariant b e l) (omega arith) none)
 
-pub returns-in-default-word : goal.returns-in-default-word
-returns-in-default-word c = λ b e l.
+pub returns-in_default-word : goal.returns-in_default-word
+returns-in_default-word c = λ b e l.
     let i = c.loop-cell in
     let k = c.args.self.now in
     let w = c.args.word.now in
     let n = length c.args.out.now in
     let t : Spelt k w n i.cell-index (c.in-Some.symbol ∷ held c.pop.new.self) i.out = subst (λ z. Spelt k w n i.cell-index z i.out) c.in-Some.ensures.word (i.invariant b e l) in
-    absurd (no_rule k w n i.cell-index c.in-Some.symbol c.letter-letter.result (held c.pop.new.self) i.out t c.letter-letter.ensures c.in-default-word.ensures)
+    absurd (no_rule k w n i.cell-index c.in-Some.symbol c.letter-letter.result (held c.pop.new.self) i.out t c.letter-letter.ensures c.in_default-word.ensures)
 
 pub loop-cell-preserved : goal.loop-cell-preserved
 loop-cell-preserved c = λ b e l.
     let i = c.loop-cell in
     let found = c.in-Some-word.ensures in
-    on c.args.self.now c.args.word.now (length c.args.out.now) i.cell-index c.in-Some.symbol c.letter-letter.result (held i.left) (held c.pop.new.self) c.as-slice.result.now
-    (held c.push-word-in-loop-cell.new.self) i.out (i.invariant b e l) (omega arith) l c.in-Some.ensures.word c.letter-letter.ensures (ap {B = Option Word} Some c.as-slice.ensures ∙ found) c.push-word-in-loop-cell.ensures
+    on c.args.self.now c.args.word.now (length c.args.out.now) i.cell-index c.in-Some.symbol c.letter-letter.result (held i.left) (held c.pop.new.self) c.as_slice.result.now
+    (held c.push_word-in-loop-cell.new.self) i.out (i.invariant b e l) (omega arith) l c.in-Some.ensures.word c.letter-letter.ensures (ap {B = Option Word} Some c.as_slice.ensures ∙ found) c.push_word-in-loop-cell.ensures
 
 pub returns : goal.returns
 returns c = λ b e l.

@@ -8,4 +8,4 @@ returns c =
     let m = c.args.self.now in
     let fits = m.fits in
     let whole : m.bits % 2 ^ 32 ≡ m.bits = omega arith in
-    ? ∙ ap ones (sym whole) ∙ number_ones m.bits 32
+    ap ones (sym whole) ∙ number_ones m.bits 32

@@ -1,4 +1,4 @@
-use Rattle.std.proofs.Common.{◌≡◌, get_or, sym, ap, ◌∙◌}
+use Rattle.std.proofs.Common.{get_or, sym, ap, ◌∙◌}
 use Rattle.norm.specs.Tabled.{held}
 use Rattle.survey.proofs.Weighing.{rule_word}
 use Rattle.survey.proofs.answers.SurveyGrammar.rule_symbol.Goals as goal
