@@ -11,7 +11,7 @@ use Rattle.grammar.specs.Meaning.{Word, Input, Meaning}
 use Rattle.grammar.specs.Takes.{step, takes}
 use Rattle.grammar.specs.declared.stack.Stack.{Stack}
 
-abbrev pub held : {N : ℕ} → Stack N → Word
+abbrev pub held : Stack → Word
 held s = drop s.top s.cells
 
 abbrev pub Stepped : {T : Type 0} → Group T → Meaning T → Word → ℕ → ℕ → Word → Option T → Type 0

@@ -9,7 +9,7 @@ use tally::Tally;
 
 // One step with a letter, with `left` letters to come. None where no input can be taken this way:
 // the word is empty, there is no rule, or more symbols would be left than letters.
-fn step<G: Grammar>(g: &G, stack: &mut Stack<MAX_INPUT>, letter: u8, left: usize) -> Option<G::T>
+fn step<G: Grammar>(g: &G, stack: &mut Stack, letter: u8, left: usize) -> Option<G::T>
     ensures { left ≤ max_input → Stepped G.T.Tally.group (G.Grammar.meaning g.now) (held stack.old) letter left (held stack.new) result }
 {
     let symbol = stack.pop()?;
@@ -38,7 +38,7 @@ pub fn derive<G: Grammar>(g: &G, word: &[u8], input: &[u8]) -> Result<Option<G::
     if word.len() > input.len() {
         return Ok(None);
     }
-    let mut stack = Stack::<MAX_INPUT>::new();
+    let mut stack = Stack::new();
     stack.push_word(word);
     let mut sum = <G::T as Tally>::zero();
     for (i, letter) in input.iter().enumerate() {

@@ -18,7 +18,7 @@ mod twin;
 pub use derivation::derive;
 pub use list_grammar::ListGrammar;
 pub use records::{RuleRecord, RuleWord};
-pub use stack::{MAX_INPUT, Stack};
+pub use stack::MAX_INPUT;
 pub use twin::{Twin, raise};
 
 // A grammar of any make. It answers five questions, each as a function of its one meaning.

@@ -8,3 +8,4 @@ pub mod Bests
 pub mod Lowering
 pub mod Settling
 pub mod Spelling
+pub mod Held

@@ -4,4 +4,5 @@ pub mod Tabled
 pub mod Measured
 pub mod Certified
 pub mod Skeletons
+pub mod WordStacks
 pub mod Laws

@@ -1,6 +1,6 @@
 ghost use Rattle.std.specs.Prelude.{◌≡◌, ℕ, suc, ◌<◌, ◌≤◌, true, length, is_some, slice_index};
 ghost use Rattle.norm.specs.Words.{body};
-ghost use Rattle.norm.specs.Norms.{norms as norm-of};
+ghost use Rattle.norm.specs.Norms.{norms as norm_of};
 ghost use Rattle.norm.specs.Tabled.{stored};
 ghost use Rattle.norm.specs.Measured.{measure};
 
@@ -15,8 +15,8 @@ pub struct Skeleton {
     pub norms: [u8; 32],
     pub letters: [u8; 32],
     ghost small: { (A : ℕ) → A < words.count → measure norms A ≤ 64 },
-    ghost below: { (A a : ℕ) → is_some (stored words.count words.words A a) ≡ true → measure norms A ≤ suc (norm-of (measure norms) (body (stored words.count words.words A a))) },
+    ghost below: { (A a : ℕ) → is_some (stored words.count words.words A a) ≡ true → measure norms A ≤ suc (norm_of (measure norms) (body (stored words.count words.words A a))) },
     ghost there: { (A : ℕ) → A < words.count → is_some (stored words.count words.words A (slice_index letters A)) ≡ true },
-    ghost attained: { (A : ℕ) → A < words.count → measure norms A ≡ suc (norm-of (measure norms) (body (stored words.count words.words A (slice_index letters A)))) },
-    ghost earliest: { (A a : ℕ) → is_some (stored words.count words.words A a) ≡ true → a < slice_index letters A → measure norms A < suc (norm-of (measure norms) (body (stored words.count words.words A a))) },
+    ghost attained: { (A : ℕ) → A < words.count → measure norms A ≡ suc (norm_of (measure norms) (body (stored words.count words.words A (slice_index letters A)))) },
+    ghost earliest: { (A a : ℕ) → is_some (stored words.count words.words A a) ≡ true → a < slice_index letters A → measure norms A < suc (norm_of (measure norms) (body (stored words.count words.words A a))) },
 }

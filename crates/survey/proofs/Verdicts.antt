@@ -14,7 +14,7 @@ use Rattle.norm.specs.Measured as measured
 use Rattle.norm.specs.Tabled.{stored}
 use Rattle.norm.specs.declared.short_word.ShortWord.{ShortWord}
 use Rattle.norm.specs.declared.fault.NormFault.{NormFault}
-use Rattle.norm.specs.declared.fault.NormFault.TheVariants as norm-faults
+use Rattle.norm.specs.declared.fault.NormFault.TheVariants as norm_faults
 use Rattle.norm.proofs.Bridges.{taken_reads, reads_taken}
 use Rattle.survey.specs.Refusals.{Sized, Fine, BadRule, too_many, strays, Sooner, TakesSome, TakesNone, Within, Passes, Accepted, Refused, bad_count, bad_rule, no_input, too_long}
 use Rattle.survey.specs.Faults.{from_norms}
@@ -120,5 +120,5 @@ module _ {T : Type 0} (n v : ℕ) (𝓣 : Group T) (M : Meaning T) where
       same = λ i A a. up.words A a i
 
       at : (f : NormFault) → measured.Unnormed v M.count (words_of M) f → Refused n v 𝓣 M (from_norms f)
-      at (norm-faults.NoInput A) u = no_input_refused up.sized up.rules A u
-      at (norm-faults.TooLong A) u = too_long_refused up.sized up.rules A u
+      at (norm_faults.NoInput A) u = no_input_refused up.sized up.rules A u
+      at (norm_faults.TooLong A) u = too_long_refused up.sized up.rules A u

@@ -3,7 +3,7 @@ use Rattle.std.specs.Prelude.{ℕ}
 use Rattle.layout.specs.declared.fault.FaultCode.{FaultCode}
 use Rattle.layout.specs.declared.fault.Layer.TheVariants.{Grammar}
 use Rattle.norm.specs.declared.fault.NormFault.{NormFault}
-use Rattle.norm.specs.declared.fault.NormFault.TheVariants as norm-faults
+use Rattle.norm.specs.declared.fault.NormFault.TheVariants as norm_faults
 use Rattle.survey.specs.declared.fault.GrammarFault.{GrammarFault}
 use Rattle.survey.specs.declared.fault.GrammarFault.TheVariants.{Count, LongRule, StraySymbol, NoInput, TooLong}
 
@@ -19,5 +19,5 @@ code_of (TooLong A) = of_grammar 12 A 0
 
 -- a fault of the norms, as one of the grammar
 abbrev pub from_norms : NormFault → GrammarFault
-from_norms (norm-faults.NoInput A) = NoInput A
-from_norms (norm-faults.TooLong A) = TooLong A
+from_norms (norm_faults.NoInput A) = NoInput A
+from_norms (norm_faults.TooLong A) = TooLong A

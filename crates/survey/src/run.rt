@@ -1,9 +1,8 @@
-use grammar::Stack;
-use norm::WORD_CAPACITY;
+use norm::{WORD_CAPACITY, WordStack};
 
 // Where a run ended: what is left of the word, and the tally.
 #[derive(Drop)]
 pub struct Run<T> {
-    pub left: Stack<WORD_CAPACITY>,
+    pub left: WordStack<WORD_CAPACITY>,
     pub tally: T,
 }

@@ -6,8 +6,8 @@ ghost use Rattle.survey.specs.Surveyed.{surveyed, run_of};
 
 use crate::run::Run;
 use crate::table::Survey;
-use grammar::{Grammar, Stack};
-use norm::{Skeleton, WORD_CAPACITY};
+use grammar::Grammar;
+use norm::{Skeleton, WORD_CAPACITY, WordStack};
 use tally::Tally;
 
 impl<T: Tally> Survey<T> {
@@ -24,7 +24,7 @@ impl<T: Tally> Survey<T> {
     pub fn run(&self, word: &[u8], input: &[u8]) -> Option<Run<T>>
         ensures { length word.now + 3 * length input.now ≤ 512 → option_map run_of result ≡ ran T.Tally.group (surveyed self.now) word.now input.now }
     {
-        let mut left = Stack::<WORD_CAPACITY>::new();
+        let mut left = WordStack::<WORD_CAPACITY>::new();
         left.push_word(word);
         let mut tally = T::zero();
         for letter in input {

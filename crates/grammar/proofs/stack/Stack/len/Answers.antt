@@ -3,6 +3,6 @@ use Rattle.grammar.proofs.Held.{held_length}
 use Rattle.grammar.proofs.stack.Stack.len.Goals as goal
 
 pub returns : goal.returns
-returns g c =
+returns c =
     let s = c.args.self.now in
-    record { value = held_length g.row.N s.cells s.top s.room s.within; bound = omega arith }
+    record { value = held_length s.cells s.top s.room s.within; bound = omega arith }

@@ -2,15 +2,15 @@ use Rattle.std.proofs.Common.{refl}
 use Rattle.grammar.proofs.Held.{held_pop, pop_none, pop_some}
 use Rattle.grammar.proofs.stack.Stack.pop.Goals as goal
 
-pub returns-then-self : goal.returns-then-self
-returns-then-self g c =
+pub returns-then-self-ge-MAX_INPUT : goal.returns-then-self-ge-MAX_INPUT
+returns-then-self-ge-MAX_INPUT c =
     let s = c.args.self.now in
-    record { word = refl; test = pop_none g.row.N s.cells s.top s.room s.within c.if-self.true }
+    record { word = refl; test = pop_none s.cells s.top s.room s.within c.if-self-ge-MAX_INPUT.true }
 
 pub returns : goal.returns
-returns g c =
+returns c =
     let s = c.args.self.now in
     record {
-      word = held_pop g.row.N s.cells s.top s.room s.within c.if-self.false;
-      test = pop_some g.row.N s.cells s.top s.room s.within c.if-self.false;
+      word = held_pop s.cells s.top s.room s.within c.if-self-ge-MAX_INPUT.false;
+      test = pop_some s.cells s.top s.room s.within c.if-self-ge-MAX_INPUT.false;
     }

@@ -2,4 +2,4 @@ use Rattle.grammar.proofs.Held.{held_push}
 use Rattle.grammar.proofs.stack.Stack.push.Goals as goal
 
 pub returns-then-self-gt0 : goal.returns-then-self-gt0
-returns-then-self-gt0 g c = let s = c.args.self.now in held_push g.row.N s.cells s.top s.room s.within c.args.symbol c.if-self-gt0.true
+returns-then-self-gt0 c = let s = c.args.self.now in held_push s.cells s.top s.room s.within c.args.symbol c.if-self-gt0.true

@@ -12,4 +12,4 @@ loop-k-init g c =
 pub loop-k-preserved : goal.loop-k-preserved
 loop-k-preserved g c =
     let w : Word = word_of ((g.G.Grammar.meaning c.args.g.now).rule c.args.symbol c.args.letter) in
-    λ room. put_more g.row.N w (held c.args.self.now) _ _ c.loop-k.k _ 255 (search rules) (search rules) room (c.loop-k.invariant room) c.rule_symbol.ensures c.push.ensures
+    λ room. put_more w (held c.args.self.now) _ _ c.loop-k.k _ 255 (search rules) (search rules) room (c.loop-k.invariant room) c.rule_symbol.ensures c.push.ensures

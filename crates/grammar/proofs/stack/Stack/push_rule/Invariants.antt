@@ -1,9 +1,10 @@
 use Rattle.std.proofs.Common.{◌≡◌, ◌+◌, ◌≤◌, ◌++◌, length, drop}
 use Rattle.grammar.specs.Meaning.{Word, word_of}
 use Rattle.grammar.specs.Stacks.{held}
+use Rattle.grammar.specs.Laws.{max_input}
 use Rattle.grammar.proofs.stack.Stack.push_rule.Given as goal
 
 abbrev pub invariant-loop-k : goal.invariant-loop-k
 invariant-loop-k g l =
     let w : Word = word_of ((g.G.Grammar.meaning l.g).rule l.symbol l.letter) in
-    length w + length (held l.initial.self) ≤ g.row.N → held l.self ≡ drop l.k w ++ held l.initial.self
+    length w + length (held l.initial.self) ≤ max_input → held l.self ≡ drop l.k w ++ held l.initial.self

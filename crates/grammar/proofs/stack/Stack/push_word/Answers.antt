@@ -4,7 +4,7 @@ use Rattle.grammar.proofs.Held.{put_none, put_more}
 use Rattle.grammar.proofs.stack.Stack.push_word.Goals as goal
 
 pub loop-k-init : goal.loop-k-init
-loop-k-init g c = λ room. put_none c.args.word.now (held c.args.self.now) _ (le_refl _)
+loop-k-init c = λ room. put_none c.args.word.now (held c.args.self.now) _ (le_refl _)
 
 pub loop-k-preserved : goal.loop-k-preserved
-loop-k-preserved g c = λ room. put_more g.row.N c.args.word.now (held c.args.self.now) _ _ c.loop-k.k _ 0 (search rules) (search rules) room (c.loop-k.invariant room) (search rules) c.push.ensures
+loop-k-preserved c = λ room. put_more c.args.word.now (held c.args.self.now) _ _ c.loop-k.k _ 0 (search rules) (search rules) room (c.loop-k.invariant room) (search rules) c.push.ensures

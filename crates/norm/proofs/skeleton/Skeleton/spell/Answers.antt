@@ -1,7 +1,7 @@
 use Rattle.std.proofs.Common.{◌≡◌, ℕ, ◌+◌, ◌<◌, ◌≤◌, true, List, [], ◌∷◌, ◌++◌, length, set, is_some, Some, None, Option, sym, ap, ◌∙◌, subst, append-nil, arith, ltb-false}
 use Rattle.std.proofs.lemmas.List.{nil_from_length}
 use Rattle.grammar.specs.Meaning.{Word}
-use Rattle.grammar.specs.Stacks.{held}
+use Rattle.norm.specs.WordStacks.{held}
 use Rattle.norm.specs.Words.{body}
 use Rattle.norm.specs.Skeletons.{rule_words, letter_at}
 use Rattle.norm.specs.declared.skeleton.Skeleton.{Skeleton}

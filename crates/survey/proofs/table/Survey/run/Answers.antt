@@ -1,7 +1,7 @@
 use Rattle.std.proofs.Common.{◌≡◌, ◌≤◌, [], ◌++◌, length, get_or, sym, ap, ◌∙◌, append-nil, arith, length-take, ltb-false}
 use Rattle.std.proofs.lemmas.List.{nil_from_length}
 use Rattle.grammar.specs.Meaning.{Weighted, tally_of}
-use Rattle.grammar.specs.Stacks as stacks
+use Rattle.norm.specs.WordStacks as stacks
 use Rattle.norm.specs.Tabled.{held}
 use Rattle.survey.specs.Surveyed.{surveyed}
 use Rattle.survey.proofs.Runs.{along_none, along_empty, along_stuck, along_more, along_all}

@@ -1,4 +1,4 @@
-use Rattle.grammar.specs.Stacks.{held}
+use Rattle.norm.specs.WordStacks.{held}
 use Rattle.survey.specs.Surveyed.{surveyed}
 use Rattle.survey.proofs.Runs.{Along}
 use Rattle.survey.proofs.table.Survey.run.Given as goal
