@@ -30,7 +30,7 @@ rule_same n k r h = ap (λ w. (r.symbol ∷ r.letter ∷ joined four r.numbers) 
 row_same : (n : ℕ) (r : FileRow) → LegalRow n r → low_row r ≡ row_bytes r
 row_same n r h = ap (λ w. r.symbol ∷ w) (counted_same r.word (omega arith))
 
-low_same : (c : Contents) → Legal c → low_encode c ≡ encode c
+pub low_same : (c : Contents) → Legal c → low_encode c ≡ encode c
 low_same c h =
     let n = length c.names in
     let k = length c.kinds in

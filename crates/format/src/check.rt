@@ -18,11 +18,10 @@ use layout::Fault;
 fn all_read(total: usize, rest: &[u8]) -> Result<(), Fault>
     ensures { MatchResult result (λ _. length rest.now ≡ 0) (λ f. (0 < length rest.now) × (f ≡ Trailing (place total rest.now))) }
 {
-    if rest.is_empty() {
-        Ok(())
-    } else {
-        Err(Fault::Trailing(place_of(total, rest)))
+    if !rest.is_empty() {
+        return Err(Fault::Trailing(place_of(total, rest)));
     }
+    Ok(())
 }
 
 // The parts of a file, or the first fault in reading order.
