@@ -2,7 +2,7 @@
 ghost use Rattle.std.specs.Prelude.{◌≡◌, ◌+◌, ◌≤◌, ltb, [], ◌∷◌, ◌++◌, length, is_some, if◌then◌else◌, nat_lt};
 ghost use Rattle.std.specs.Option.{option_to_list};
 ghost use Rattle.grammar.specs.Meaning.{word_of};
-ghost use Rattle.norm.specs.WordStacks.{held};
+ghost use Rattle.norm.specs.WordStacks.{held, put_before};
 
 use crate::word_stack::WordStack;
 use grammar::Grammar;
@@ -57,18 +57,19 @@ impl<const N: usize> WordStack<N> {
         Some(symbol)
     }
 
-    // Puts a word in front, where there is room for all of it.
+    // Puts a word in front; of one that does not fit, as many of its last symbols as there is room for.
     pub fn push_word(&mut self, word: &[u8])
-        ensures { length word.now + length (held self.old) ≤ N → held self.new ≡ word.now ++ held self.old }
+        ensures { held self.new ≡ put_before N word.now (held self.old) }
     {
         for k in (0..word.len()).rev() {
             self.push(word[k]);
         }
     }
 
-    // Puts the word of a rule in front, where there is room for all of it.
+    // Puts the word of a rule in front; of one that does not fit, as many of its last symbols as there
+    // is room for.
     pub fn push_rule<G: Grammar>(&mut self, g: &G, symbol: u8, letter: u8)
-        ensures { length (word_of ((G.Grammar.meaning g.now).rule symbol letter)) + length (held self.old) ≤ N → held self.new ≡ word_of ((G.Grammar.meaning g.now).rule symbol letter) ++ held self.old }
+        ensures { held self.new ≡ put_before N (word_of ((G.Grammar.meaning g.now).rule symbol letter)) (held self.old) }
     {
         for k in (0..g.rule_len(symbol, letter)).rev() {
             self.push(g.rule_symbol(symbol, letter, k));
