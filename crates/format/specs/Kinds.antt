@@ -10,11 +10,11 @@
 use Rattle.std.specs.Prelude.{◌≡◌, ℕ, ◌+◌, ◌%◌, ◌^◌, ◌<◌, ◌≤◌, List, [], ◌∷◌, ◌++◌, length, take, slice_index, refl}
 use Rattle.std.proofs.Common.{ap, ap₂, ◌∙◌, arith, length-append}
 use Rattle.tally.specs.Makes.{Numbered, foot_of, foot_same, last_of, last_same, odd_of, odd_same, pair_of}
-use Rattle.tally.specs.declared.values.Untallied.{Untallied}
-use Rattle.tally.specs.declared.values.FootMm.{FootMm}
-use Rattle.tally.specs.declared.values.LastMm.{LastMm}
-use Rattle.tally.specs.declared.values.OddOnes.{OddOnes}
-use Rattle.tally.specs.declared.values.Pair.{Pair}
+use Rattle.tally.specs.declared.untallied.Untallied.{Untallied}
+use Rattle.tally.specs.declared.foot_mm.FootMm.{FootMm}
+use Rattle.tally.specs.declared.last_mm.LastMm.{LastMm}
+use Rattle.tally.specs.declared.odd_ones.OddOnes.{OddOnes}
+use Rattle.tally.specs.declared.pair.Pair.{Pair}
 use Rattle.layout.specs.Contents.{All}
 
 pub record Lossless {T : Type 0} (ks : List ℕ) (numbers : T → List ℕ) (made : ℕ → ℕ → T) : Type 0 where

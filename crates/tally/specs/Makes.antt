@@ -14,11 +14,11 @@ use Rattle.std.proofs.Math.Decide.{ℕ_discrete}
 use Rattle.std.proofs.lemmas.Nat.{xor_lt, xor_comm}
 use Rattle.std.specs.Int.Bits.{xor_assoc, xor_self, xor_zero_l}
 use Rattle.tally.specs.Group.{Group}
-use Rattle.tally.specs.declared.values.Untallied.{Untallied}
-use Rattle.tally.specs.declared.values.FootMm.{FootMm}
-use Rattle.tally.specs.declared.values.LastMm.{LastMm}
-use Rattle.tally.specs.declared.values.OddOnes.{OddOnes}
-use Rattle.tally.specs.declared.values.Pair.{Pair}
+use Rattle.tally.specs.declared.untallied.Untallied.{Untallied}
+use Rattle.tally.specs.declared.foot_mm.FootMm.{FootMm}
+use Rattle.tally.specs.declared.last_mm.LastMm.{LastMm}
+use Rattle.tally.specs.declared.odd_ones.OddOnes.{OddOnes}
+use Rattle.tally.specs.declared.pair.Pair.{Pair}
 
 -- a test of equality along a map that tells values apart
 pub decided : {T U : Type 0} (f : T → U) → ((a b : T) → f a ≡ f b → a ≡ b) → ((u v : U) → Dec (u ≡ v)) → (a b : T) → Dec (a ≡ b)

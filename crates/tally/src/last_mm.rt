@@ -1,24 +1,21 @@
 // Last lengths: millimetres modulo 2^32, a group of their own.
-ghost use Rattle.std.specs.Prelude.{◌≡◌, Decides, nat_eq};
-ghost use Rattle.std.specs.Ordering.{on};
-ghost use Rattle.tally.specs.Makes.{last_group};
-ghost use Rattle.std.specs.Cmp.Rules.{comparing};
+#![tactic(auto, using(crate::specs::Makes::last_same))]
+
+ghost use Rattle.std.specs.Prelude.{◌≡◌, ◌^◌, ◌<◌, Decides};
 ghost use Rattle.std.proofs.Common.{rules, arith};
 
 use crate::Tally;
-use crate::values::LastMm;
 
-impl PartialEq for LastMm {
-    ghost eq = { on (λ v. v.mm) nat_eq };
-
-    ghost laws = { first_of (Prim.search (comparing, rules), Prim.grind (arith, Self.row.coded.inj)) };
-
-    fn eq(&self, other: &LastMm) -> bool {
-        self.mm == other.mm
-    }
+// A last length in millimetres, modulo 2^32. A type of its own, so that it never meets a foot length.
+#[derive(Clone, Copy, Debug, PartialEq)]
+pub struct LastMm {
+    pub mm: u32,
+    ghost fits: { mm < 2 ^ 32 },
 }
 
 impl Tally for LastMm {
+    ghost use Rattle.tally.specs.Makes.{last_group};
+
     ghost group = { last_group };
 
     ghost equal = { first_of (Prim.search rules, Prim.grind (arith, Self.row.coded.inj)) };

@@ -12,10 +12,13 @@ mod sums;
 #[cfg(test)]
 mod tests;
 mod untallied;
-mod values;
 
+pub use foot_mm::FootMm;
+pub use last_mm::LastMm;
+pub use odd_ones::OddOnes;
+pub use pair::Pair;
 pub use sums::sum;
-pub use values::{FootMm, LastMm, OddOnes, Pair, Untallied};
+pub use untallied::Untallied;
 
 // A plain copyable value that can be added, negated and compared: an element of an abelian group.
 pub trait Tally: Copy + PartialEq {

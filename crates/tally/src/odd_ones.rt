@@ -1,24 +1,21 @@
 // Odd ones: 32 bits joined by exclusive or.
-ghost use Rattle.std.specs.Prelude.{◌≡◌, Decides, nat_eq};
-ghost use Rattle.std.specs.Ordering.{on};
-ghost use Rattle.tally.specs.Makes.{odd_group};
-ghost use Rattle.std.specs.Cmp.Rules.{comparing};
+#![tactic(auto, using(crate::specs::Makes::odd_same))]
+
+ghost use Rattle.std.specs.Prelude.{◌≡◌, ◌^◌, ◌<◌, Decides};
 ghost use Rattle.std.proofs.Common.{rules, arith};
 
 use crate::Tally;
-use crate::values::OddOnes;
 
-impl PartialEq for OddOnes {
-    ghost eq = { on (λ v. v.bits) nat_eq };
-
-    ghost laws = { first_of (Prim.search (comparing, rules), Prim.grind (arith, Self.row.coded.inj)) };
-
-    fn eq(&self, other: &OddOnes) -> bool {
-        self.bits == other.bits
-    }
+// Bit k tells whether an odd number of the tallies that were added had bit k.
+#[derive(Clone, Copy, Debug, PartialEq)]
+pub struct OddOnes {
+    pub bits: u32,
+    ghost fits: { bits < 2 ^ 32 },
 }
 
 impl Tally for OddOnes {
+    ghost use Rattle.tally.specs.Makes.{odd_group};
+
     ghost group = { odd_group };
 
     ghost equal = { first_of (Prim.search rules, Prim.grind (arith, Self.row.coded.inj)) };

@@ -17,7 +17,7 @@
 use Rattle.std.specs.Prelude.{◌≡◌, ℕ, cond, ◌||◌, List, [], ◌∷◌, ◌++◌, length, is_some, Some, None, Ok, Err, vec_items, Option, Result, ◌==◌}
 use Rattle.std.specs.Borrow.{Bor}
 use Rattle.std.specs.Option.{option_map, unwrap_or}
-use Rattle.tally.specs.declared.values.FootMm.{FootMm}
+use Rattle.tally.specs.declared.foot_mm.FootMm.{FootMm}
 use Rattle.worked.specs.declared.reading.Reading.{Reading}
 use Rattle.worked.specs.declared.reading.Reading.TheVariants.{Query, NoFields, NoWord}
 use Rattle.worked.specs.declared.outcome.Outcome.{Outcome}

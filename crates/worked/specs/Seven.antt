@@ -14,7 +14,7 @@ use Rattle.std.specs.Prelude.{◌≡◌, ℕ, ◌-◌, ◌%◌, ◌^◌, List, [
 use Rattle.std.proofs.Common.{arith}
 use Rattle.std.specs.Option.{option_map}
 use Rattle.tally.specs.Makes.{foot_of, foot_group}
-use Rattle.tally.specs.declared.values.FootMm.{FootMm}
+use Rattle.tally.specs.declared.foot_mm.FootMm.{FootMm}
 use Rattle.grammar.specs.Meaning.{Word, Input, Meaning, word_of}
 use Rattle.grammar.specs.Takes.{takes}
 use Rattle.grammar.specs.Listed.{listed}

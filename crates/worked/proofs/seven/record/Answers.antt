@@ -1,6 +1,6 @@
 use Rattle.std.proofs.Common.{ap, rules}
 use Rattle.tally.specs.Makes.{foot_same}
-use Rattle.tally.specs.declared.values.FootMm.{FootMm}
+use Rattle.tally.specs.declared.foot_mm.FootMm.{FootMm}
 use Rattle.grammar.specs.declared.records.RuleRecord.{RuleRecord}
 use Rattle.worked.proofs.seven.record.Goals as goal
 
