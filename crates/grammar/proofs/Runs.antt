@@ -53,7 +53,7 @@ module _ {T : Type 0} (𝓣 : Group T) (M : Meaning T) where
         at (A ∷ w) k = absurd (omega arith)
 
   -- what the run answers
-  pub derived_long : (w : Word) (s : Input) → max_input < length s → Err (length s) ≡ derived 𝓣 M w s
+  pub derived_long : (w : Word) (s : Input) → max_input < length s → Err (record { letters = length s }) ≡ derived 𝓣 M w s
   derived_long w s h = rw (lt-ltb max_input (length s) h)
 
   pub derived_short : (w : Word) (s : Input) (o : Option T) → length s ≤ max_input → takes 𝓣 M w s ≡ o → Ok o ≡ derived 𝓣 M w s

@@ -4,7 +4,7 @@
 -- Split 𝓣 M x y s t   x takes a front of s and y the rest, with tallies that add up to t
 -- WordLaws 𝓣          concatenations, prefixes, sameness
 -- max_input           the most letters that a run is asked for
--- derived 𝓣 M w s     what derive answers: the number of letters if there are too many, else what is taken
+-- derived 𝓣 M w s     what derive answers: a refusal with the number of letters if there are too many, else what is taken
 --
 -- Assumes nothing.
 use Rattle.std.specs.Prelude.{◌≡◌, ℕ, ◌≤◌, cond, ◌↔◌, List, [], ◌++◌, length, Some, Ok, Err, Option, Result, nat_lt}
@@ -12,6 +12,7 @@ use Rattle.tally.specs.Group.{Group, total}
 use Rattle.grammar.specs.Meaning.{Word, Input, Meaning, Letter, Each, WellFormed}
 use Rattle.grammar.specs.Takes.{shift, takes, Differ, Same}
 use Rattle.grammar.specs.Derivation.{tallies, symbols, Derives}
+use Rattle.grammar.specs.declared.too_long.InputTooLong.{InputTooLong}
 
 abbrev pub DerivationLaw : {T : Type 0} → Group T → Type 0
 DerivationLaw {T} 𝓣 = (M : Meaning T) (w : Word) (s : Input) (t : T) →
@@ -47,5 +48,5 @@ pub record WordLaws {T : Type 0} (𝓣 : Group T) : Type 0 where
 abbrev pub max_input : ℕ
 max_input = 16384
 
-abbrev pub derived : {T : Type 0} → Group T → Meaning T → Word → Input → Result (Option T) ℕ
-derived 𝓣 M w s = cond (nat_lt max_input (length s)) (Err (length s)) (Ok (takes 𝓣 M w s))
+abbrev pub derived : {T : Type 0} → Group T → Meaning T → Word → Input → Result (Option T) InputTooLong
+derived 𝓣 M w s = cond (nat_lt max_input (length s)) (Err (record { letters = length s })) (Ok (takes 𝓣 M w s))

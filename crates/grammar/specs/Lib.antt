@@ -4,6 +4,7 @@ pub mod Derivation
 pub mod Laws
 pub mod Listed
 pub mod Twinned
-pub mod Stacks
+pub mod WordStacks
+pub mod Stepping
 pub mod WellListed
 pub mod WellTwinned

@@ -9,17 +9,18 @@ use tally::Tally;
 mod derivation;
 mod list_grammar;
 mod records;
-mod stack;
-mod stack_moves;
 #[cfg(test)]
 mod tests;
+mod too_long;
 mod twin;
+mod word_stack;
 
-pub use derivation::derive;
+pub use derivation::{MAX_INPUT, derive};
 pub use list_grammar::ListGrammar;
 pub use records::{RuleRecord, RuleWord};
-pub use stack::MAX_INPUT;
+pub use too_long::InputTooLong;
 pub use twin::{Twin, raise};
+pub use word_stack::WordStack;
 
 // A grammar of any make. It answers five questions, each as a function of its one meaning.
 pub trait Grammar {

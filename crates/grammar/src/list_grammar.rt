@@ -32,11 +32,8 @@ impl RuleWord {
     fn symbol(self, at: u8) -> u8
         ensures { result ≡ slice_index_or (written self) at 255 }
     {
-        if at < self.len() {
-            self.symbols[at as usize]
-        } else {
-            255
-        }
+        let symbols = &self.symbols[..self.len() as usize];
+        symbols.get(at as usize).copied().unwrap_or(255)
     }
 }
 
@@ -49,23 +46,14 @@ impl<T> RuleRecord<T> {
     }
 }
 
-// Whether a byte is a letter, A to Z.
-fn is_letter(byte: u8) -> bool
-    ensures { result ≡ letter byte }
-{
-    b'A' <= byte && byte <= b'Z'
-}
-
 // The first record for the symbol and the letter.
 fn find<T: Tally>(records: &[RuleRecord<T>], symbol: u8, letter: u8) -> Option<RuleRecord<T>>
     ensures { result ≡ first_hit symbol letter records.now }
 {
-    for record in records {
-        if record.is_for(symbol, letter) {
-            return Some(*record);
-        }
-    }
-    None
+    records
+        .iter()
+        .find(|record| record.is_for(symbol, letter))
+        .copied()
 }
 
 impl<T: Tally> ListGrammar<T> {
@@ -82,7 +70,7 @@ impl<T: Tally> ListGrammar<T> {
     fn rule(&self, symbol: u8, letter: u8) -> Option<RuleRecord<T>>
         ensures { option_map of_record result ≡ (listed self.now.count (self.now.records.items)).rule symbol letter }
     {
-        if symbol < self.count && is_letter(letter) {
+        if symbol < self.count && letter.is_ascii_uppercase() {
             find(&self.records, symbol, letter)
         } else {
             None
@@ -106,23 +94,16 @@ impl<T: Tally> Grammar for ListGrammar<T> {
     }
 
     fn rule_len(&self, symbol: u8, letter: u8) -> u8 {
-        match self.rule(symbol, letter) {
-            Some(record) => record.word.len(),
-            None => 0,
-        }
+        self.rule(symbol, letter).map_or(0, |rule| rule.word.len())
     }
 
     fn rule_symbol(&self, symbol: u8, letter: u8, at: u8) -> u8 {
-        match self.rule(symbol, letter) {
-            Some(record) => record.word.symbol(at),
-            None => 255,
-        }
+        self.rule(symbol, letter)
+            .map_or(255, |rule| rule.word.symbol(at))
     }
 
     fn rule_tally(&self, symbol: u8, letter: u8) -> T {
-        match self.rule(symbol, letter) {
-            Some(record) => record.tally,
-            None => T::zero(),
-        }
+        self.rule(symbol, letter)
+            .map_or(T::zero(), |rule| rule.tally)
     }
 }

@@ -39,7 +39,10 @@ fn longest_input(rt: HostRuntime) -> Result<(), Fail> {
     assert!(rt; derive(&g, &[0], &input).ok().is_some());
     assert_eq!(rt; g.rule_len(0, b'C'), 5);
     input.push(b'B')?;
-    assert_eq!(rt; derive(&g, &[0], &input).err(), Some(16_385));
+    assert_eq!(rt;
+        derive(&g, &[0], &input).err(),
+        Some(InputTooLong { letters: 16_385 })
+    );
     Ok(())
 }
 

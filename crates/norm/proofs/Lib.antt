@@ -8,4 +8,3 @@ pub mod Bests
 pub mod Lowering
 pub mod Settling
 pub mod Spelling
-pub mod Held

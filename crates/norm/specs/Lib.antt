@@ -4,5 +4,4 @@ pub mod Tabled
 pub mod Measured
 pub mod Certified
 pub mod Skeletons
-pub mod WordStacks
 pub mod Laws

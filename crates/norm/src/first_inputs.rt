@@ -6,7 +6,7 @@ ghost use Rattle.norm.specs.Certified.{spelled};
 ghost use Rattle.norm.specs.Skeletons.{rule_words, norm_at, letter_at, first_at};
 
 use crate::skeleton::Skeleton;
-use crate::word_stack::WordStack;
+use grammar::WordStack;
 
 // The most symbols of a word that is worked with: 8 symbols of norm 64.
 pub const WORD_CAPACITY: usize = 512;

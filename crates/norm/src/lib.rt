@@ -14,8 +14,6 @@ mod queries;
 mod rule_words;
 mod short_word;
 mod skeleton;
-mod word_stack;
-mod word_stack_moves;
 
 pub use fault::NormFault;
 pub use first_inputs::WORD_CAPACITY;
@@ -24,7 +22,6 @@ pub use measure::MAX_NORM;
 pub use rule_words::{MAX_SYMBOLS, PLACES, RuleWords};
 pub use short_word::{MAX_RULE, ShortWord};
 pub use skeleton::Skeleton;
-pub use word_stack::WordStack;
 
 // The laws of norms and first inputs stand for every tally; a survey carries them for its grammar.
 pub fn norms_stand<T: Tally>() -> u8

@@ -11,7 +11,7 @@
 use Rattle.std.specs.Prelude.{ℕ, Some, None, Option}
 use Rattle.std.specs.List.{slice_get}
 use Rattle.grammar.specs.Meaning.{Word, Input, Weighted, Meaning}
-use Rattle.norm.specs.WordStacks.{held}
+use Rattle.grammar.specs.WordStacks.{held}
 use Rattle.norm.specs.Words.{Words}
 use Rattle.norm.specs.Tabled.{index}
 use Rattle.norm.specs.Skeletons.{rule_words, norm_at, first_at}

@@ -1,4 +1,5 @@
-use norm::{WORD_CAPACITY, WordStack};
+use grammar::WordStack;
+use norm::WORD_CAPACITY;
 
 // Where a run ended: what is left of the word, and the tally.
 #[derive(Drop)]

@@ -6,8 +6,8 @@ ghost use Rattle.survey.specs.Surveyed.{surveyed, run_of};
 
 use crate::run::Run;
 use crate::table::Survey;
-use grammar::Grammar;
-use norm::{Skeleton, WORD_CAPACITY, WordStack};
+use grammar::{Grammar, WordStack};
+use norm::{Skeleton, WORD_CAPACITY};
 use tally::Tally;
 
 impl<T: Tally> Survey<T> {

@@ -1,4 +1,4 @@
-use Rattle.grammar.specs.Stacks.{held}
+use Rattle.grammar.specs.WordStacks.{held}
 use Rattle.grammar.proofs.Runs.{Ran}
 use Rattle.grammar.proofs.derivation.derive.Given as goal
 

@@ -1,12 +1,13 @@
-use Rattle.std.proofs.Common.{sym, ◌∙◌, rules}
-use Rattle.grammar.proofs.Finds.{first_here, first_later, first_none}
+use Rattle.std.proofs.Common.{sym, ◌∙◌, rules, tests}
+use Rattle.std.proofs.lemmas.Iterator.{YieldsList-from_slice}
+use Rattle.std.proofs.lemmas.Iterator.Search.{find_from_yields_List}
+use Rattle.grammar.specs.Listed.{hit}
+use Rattle.grammar.proofs.Finds.{first_hit_found}
 use Rattle.grammar.proofs.list_grammar.find.Goals as goal
 
-pub returns-then-is_for : goal.returns-then-is_for
-returns-then-is_for g c = sym (c.loop-record.invariant ∙ first_here _ _ _ _ _ c.loop-record-test.true (search rules) (search rules))
-
-pub loop-record-preserved : goal.loop-record-preserved
-loop-record-preserved g c = c.loop-record.invariant ∙ first_later _ _ _ _ c.record-item.result c.loop-record-test.true (search rules) (search rules)
-
 pub returns : goal.returns
-returns g c = sym (c.loop-record.invariant ∙ first_none _ _ _ _ c.loop-record-test.false)
+returns g c =
+    let A = c.args.symbol in
+    let a = c.args.letter in
+    c.copied.ensures ∙ find_from_yields_List (hit A a) _ _ c.find.result c.find.ensures.ran (YieldsList-from_slice c.args.records.now cc) (λ x b q k. search (rules, tests))
+    ∙ sym (first_hit_found A a c.args.records.now)

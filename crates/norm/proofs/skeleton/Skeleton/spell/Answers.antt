@@ -1,11 +1,11 @@
 use Rattle.std.proofs.Common.{◌≡◌, ℕ, ◌+◌, ◌<◌, ◌≤◌, true, List, [], ◌∷◌, ◌++◌, length, set, is_some, Some, None, Option, sym, ap, ◌∙◌, subst, append-nil, arith, ltb-false}
 use Rattle.std.proofs.lemmas.List.{nil_from_length}
 use Rattle.grammar.specs.Meaning.{Word}
-use Rattle.norm.specs.WordStacks.{held}
+use Rattle.grammar.specs.WordStacks.{held}
 use Rattle.norm.specs.Words.{body}
 use Rattle.norm.specs.Skeletons.{rule_words, letter_at}
 use Rattle.norm.specs.declared.skeleton.Skeleton.{Skeleton}
-use Rattle.norm.proofs.Held.{fits}
+use Rattle.grammar.proofs.Held.{fits}
 use Rattle.norm.proofs.Spelling.{long_enough, Spelt, spelt_none, spelt_left, spelt_room, spelt_more, spelt_all}
 use Rattle.norm.proofs.skeleton.Skeleton.spell.Goals as goal
 
@@ -37,7 +37,7 @@ loop-cell-init c = λ b e l.
     let fresh = c.new-left.ensures in
     let none = ap length fresh in
     let few = long_enough k w b in
-    let put : held c.push_word.new.self ≡ w = c.push_word.ensures ∙ fits 512 w (held c.new-left.result) (omega arith) ∙ ap (λ x. w ++ x) fresh ∙ append-nil w in
+    let put : held c.push_word.new.self ≡ w = fits 512 w (held c.new-left.result) _ c.push_word.ensures (omega arith) ∙ ap (λ x. w ++ x) fresh ∙ append-nil w in
     subst (λ x. Spelt k w (length out) 0 x out) (sym put) (spelt_none k w (length out) out b e (let z : length out ≡ length out = omega arith in z))
 
 pub returns-in_default : goal.returns-in_default
@@ -61,7 +61,7 @@ loop-cell-preserved c = λ b e l.
     let i = c.loop-cell in
     let found = c.in-Some-word.ensures in
     on c.args.self.now c.args.word.now (length c.args.out.now) i.cell-index c.in-Some.symbol c.letter-letter.result (held i.left) (held c.pop.new.self) c.as_slice.result.now
-    (held c.push_word-in-loop-cell.new.self) i.out (i.invariant b e l) (omega arith) l c.in-Some.ensures.word c.letter-letter.ensures (ap {B = Option Word} Some c.as_slice.ensures ∙ found) (λ room. c.push_word-in-loop-cell.ensures ∙ fits 512 c.as_slice.result.now (held c.pop.new.self) room)
+    (held c.push_word-in-loop-cell.new.self) i.out (i.invariant b e l) (omega arith) l c.in-Some.ensures.word c.letter-letter.ensures (ap {B = Option Word} Some c.as_slice.ensures ∙ found) (λ room. fits 512 c.as_slice.result.now (held c.pop.new.self) _ c.push_word-in-loop-cell.ensures room)
 
 pub returns : goal.returns
 returns c = λ b e l.

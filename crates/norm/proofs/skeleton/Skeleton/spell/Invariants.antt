@@ -1,6 +1,6 @@
 use Rattle.std.proofs.Common.{◌≡◌, ◌≤◌, length}
 use Rattle.grammar.specs.Meaning.{Below}
-use Rattle.norm.specs.WordStacks.{held}
+use Rattle.grammar.specs.WordStacks.{held}
 use Rattle.norm.specs.Norms.{norms}
 use Rattle.norm.specs.Skeletons.{norm_at}
 use Rattle.norm.proofs.Spelling.{Spelt}

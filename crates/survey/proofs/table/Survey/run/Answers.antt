@@ -1,10 +1,10 @@
 use Rattle.std.proofs.Common.{◌≡◌, ◌≤◌, [], ◌++◌, length, get_or, sym, ap, ◌∙◌, append-nil, arith, length-take, ltb-false}
 use Rattle.std.proofs.lemmas.List.{nil_from_length}
 use Rattle.grammar.specs.Meaning.{Weighted, tally_of}
-use Rattle.norm.specs.WordStacks as stacks
+use Rattle.grammar.specs.WordStacks as stacks
 use Rattle.norm.specs.Tabled.{held}
 use Rattle.survey.specs.Surveyed.{surveyed}
-use Rattle.norm.proofs.Held.{fits}
+use Rattle.grammar.proofs.Held.{fits}
 use Rattle.survey.proofs.Runs.{along_none, along_empty, along_stuck, along_more, along_all}
 use Rattle.survey.proofs.Weighing.{rule_some, rule_none}
 use Rattle.survey.proofs.table.Survey.run.Goals as goal
@@ -15,7 +15,7 @@ loop-letter-init g c =
     let fresh = c.new-left.ensures in
     let none = ap length fresh in
     along_none g.T.Tally.group (surveyed c.args.self.now) w c.args.input.now (stacks.held c.push_word.new.self) c.zero-tally.result
-    (λ h. c.push_word.ensures ∙ fits 512 w (stacks.held c.new-left.result) (omega arith) ∙ ap (λ x. w ++ x) fresh ∙ append-nil w) c.zero-tally.ensures
+    (λ h. fits 512 w (stacks.held c.new-left.result) _ c.push_word.ensures (omega arith) ∙ ap (λ x. w ++ x) fresh ∙ append-nil w) c.zero-tally.ensures
 
 pub returns-in_err-symbol : goal.returns-in_err-symbol
 returns-in_err-symbol g c = λ h.
@@ -49,7 +49,7 @@ loop-letter-preserved g c =
     let slice = c.as_slice.ensures in
     let size = ap length slice in
     along_more 𝓣 (surveyed s) c.args.word.now c.args.input.now l.letter-index A (stacks.held l.left) r (stacks.held c.push_word-in-loop-letter.new.self) l.tally c.add-tally.result m l.invariant (omega arith)
-    c.in_ok-symbol.ensures.word found.2 short (λ h. c.push_word-in-loop-letter.ensures ∙ fits 512 c.as_slice.result.now r (omega arith) ∙ ap (λ x. x ++ r) slice)
+    c.in_ok-symbol.ensures.word found.2 short (λ h. fits 512 c.as_slice.result.now r _ c.push_word-in-loop-letter.ensures (omega arith) ∙ ap (λ x. x ++ r) slice)
     (c.add-tally.ensures ∙ ap (𝓣.add l.tally) (c.rule_tally.ensures ∙ ap (tally_of 𝓣.zero) found.2))
 
 pub returns : goal.returns

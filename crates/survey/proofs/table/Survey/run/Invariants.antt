@@ -1,4 +1,4 @@
-use Rattle.norm.specs.WordStacks.{held}
+use Rattle.grammar.specs.WordStacks.{held}
 use Rattle.survey.specs.Surveyed.{surveyed}
 use Rattle.survey.proofs.Runs.{Along}
 use Rattle.survey.proofs.table.Survey.run.Given as goal
