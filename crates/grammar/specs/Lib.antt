@@ -6,5 +6,7 @@ pub mod Listed
 pub mod Twinned
 pub mod WordStacks
 pub mod Stepping
+pub mod Places
+pub mod TooLong
 pub mod WellListed
 pub mod WellTwinned

@@ -8,6 +8,7 @@ use tally::Tally;
 
 mod derivation;
 mod list_grammar;
+mod places;
 mod records;
 #[cfg(test)]
 mod tests;
@@ -17,6 +18,7 @@ mod word_stack;
 
 pub use derivation::{MAX_INPUT, derive};
 pub use list_grammar::ListGrammar;
+pub use places::{PLACES, index_of};
 pub use records::{RuleRecord, RuleWord};
 pub use too_long::InputTooLong;
 pub use twin::{Twin, raise};

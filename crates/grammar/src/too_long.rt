@@ -1,4 +1,7 @@
 // What a run is refused for.
+ghost use Rattle.std.specs.Prelude.{Some};
+ghost use Rattle.grammar.specs.TooLong.{too_long_text};
+
 use crate::derivation::MAX_INPUT;
 use std::error::Error;
 use std::fmt;
@@ -10,6 +13,8 @@ pub struct InputTooLong {
 }
 
 impl fmt::Display for InputTooLong {
+    ghost output = { λ e. Some (too_long_text e) };
+
     fn fmt<W: fmt::Write>(&self, f: &mut fmt::Formatter<W>) -> fmt::Result {
         let letters = self.letters;
         write!(
