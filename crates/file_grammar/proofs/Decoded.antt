@@ -1,5 +1,5 @@
 -- The bytes of one rule: what is read out of them. Assumes nothing.
-use Rattle.std.proofs.Common.{◌≡◌, ℕ, zero, suc, ◌+◌, ◌*◌, ◌<◌, ◌≤◌, List, length, get_or, take, drop, sym, refl, ap, ◌∙◌, arith, [], ◌∷◌}
+use Rattle.std.proofs.Common.{◌≡◌, ℕ, zero, suc, ◌+◌, ◌*◌, ◌<◌, ◌≤◌, List, length, get_or, drop, sym, refl, ap, ◌∙◌, arith, [], ◌∷◌}
 use Rattle.std.proofs.lemmas.List.{drop-drop, get_or_past, get_or-drop}
 use Rattle.std.specs.Int.{from_be_bytes, w32}
 use Rattle.file_grammar.specs.Tabled.{number_of, numbers_of}

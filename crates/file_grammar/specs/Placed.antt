@@ -18,7 +18,6 @@ use Rattle.file_grammar.specs.declared.rule_table.RuleTable.{RuleTable}
 pub record RulesOf (k : ℕ) (bs : List ℕ) (rs : List FileRule) : Type 0 where
   pub symbols : ℕ
   pub few : symbols ≤ 32
-  pub few_kinds : k ≤ 2
   pub legal : LegalRules symbols k rs
   pub bytes : bs ≡ joined rule_bytes rs
 

@@ -60,6 +60,7 @@ impl<'a, T: FileTally> Grammar for FileGrammar<'a, T> {
             .map_or(255, |rule| rule.symbol(at))
     }
 
+    // No `map_or_else`: a closure whose result is of a parameter's type gets no proof.
     fn rule_tally(&self, symbol: u8, letter: u8) -> T {
         match self.table.rule(symbol, letter) {
             Some(rule) => T::of_numbers(rule.number(0), rule.number(1)),

@@ -37,8 +37,8 @@ fn placed<'a>(bytes: &'a [u8], kinds: u8) -> [Option<&'a [u8]>; PLACES]
 pub(crate) fn table_of<'a>(file: Checked<'a>) -> RuleTable<'a>
     ensures { (c : Contents) → Legal c → Shows file.entry c → Tables result c }
 {
-    let count = file.names.len().min(255) as u8;
-    let kinds = file.kinds.len().min(255) as u8;
+    let count = u8::try_from(file.names.len()).unwrap_or(u8::MAX);
+    let kinds = u8::try_from(file.kinds.len()).unwrap_or(u8::MAX);
     let rules = placed(file.rules.bytes, kinds);
     RuleTable {
         count,
