@@ -5,7 +5,6 @@ ghost use Rattle.file_grammar.specs.Tabled.{tabled};
 ghost use Rattle.file_grammar.specs.WellTabled.{tabled_wellformed};
 
 use crate::fill::{empty_table, table_of};
-use crate::rule_bytes::{len_in, number_in, symbol_in};
 use crate::rule_table::RuleTable;
 use format::{FileTally, check_file};
 use grammar::Grammar;
@@ -29,7 +28,7 @@ impl<'a, T: FileTally> FileGrammar<'a, T> {
                 tally: PhantomData,
             },
             Err(_) => FileGrammar {
-                table: empty_table(bytes),
+                table: empty_table(),
                 tally: PhantomData,
             },
         }
@@ -52,23 +51,19 @@ impl<'a, T: FileTally> Grammar for FileGrammar<'a, T> {
     }
 
     fn rule_len(&self, symbol: u8, letter: u8) -> u8 {
-        match self.table.rule(symbol, letter) {
-            Some(rule) => len_in(rule, self.table.kinds),
-            None => 0,
-        }
+        self.table.rule(symbol, letter).map_or(0, |rule| rule.len())
     }
 
     fn rule_symbol(&self, symbol: u8, letter: u8, at: u8) -> u8 {
-        match self.table.rule(symbol, letter) {
-            Some(rule) => symbol_in(rule, self.table.kinds, at),
-            None => 255,
-        }
+        self.table
+            .rule(symbol, letter)
+            .map_or(255, |rule| rule.symbol(at))
     }
 
+    // No `map_or_else`: a closure whose result is of a parameter's type gets no proof.
     fn rule_tally(&self, symbol: u8, letter: u8) -> T {
-        let kinds = self.table.kinds;
         match self.table.rule(symbol, letter) {
-            Some(rule) => T::of_numbers(number_in(rule, kinds, 0), number_in(rule, kinds, 1)),
+            Some(rule) => T::of_numbers(rule.number(0), rule.number(1)),
             None => T::zero(),
         }
     }

@@ -10,13 +10,7 @@ const GOOD: [u8; 43] = [
 
 // What the word takes, in millimetres.
 fn taken(g: &FileGrammar<FootMm>, word: &[u8], input: &[u8]) -> Option<u32> {
-    match derive(g, word, input) {
-        Ok(taken) => match taken {
-            Some(tally) => Some(tally.mm),
-            None => None,
-        },
-        Err(_) => None,
-    }
+    derive(g, word, input).ok().flatten().map(|tally| tally.mm)
 }
 
 // A good file is run; for another tally it has no symbol.
