@@ -3,6 +3,7 @@ pub mod Bridges
 pub mod Weights
 pub mod Lawful
 pub mod Certificates
+pub mod FromFn
 pub mod Along
 pub mod Bests
 pub mod Lowering

@@ -4,7 +4,7 @@
 -- A symbol without a measure has only rules through such symbols, so no word with one of them ends.
 --
 -- Assumes nothing.
-use Rattle.std.proofs.Common.{◌≡◌, ℕ, suc, ◌+◌, ◌<◌, ◌≤◌, true, false, cond, ◌&&◌, ltb, ◌⊎◌, List, [], ◌∷◌, ◌++◌, length, get_or, set, is_some, Some, None, Option, sym, refl, ap, subst, inl, inr, ⊎_elim, arith, get_or-set_other, get_or-set_same, below_more, ltb-true}
+use Rattle.std.proofs.Common.{◌≡◌, ℕ, suc, ◌<◌, ◌≤◌, true, false, cond, ◌&&◌, ltb, ◌⊎◌, List, [], ◌∷◌, ◌++◌, length, get_or, is_some, Some, None, Option, sym, refl, ap, subst, inl, inr, ⊎_elim, arith, ltb-true}
 use Rattle.std.proofs.lemmas.Bool.{cases_lt, and_parts}
 use Rattle.grammar.specs.Meaning.{Word, Input, Each, Below}
 use Rattle.grammar.specs.Listed.{letter}
@@ -13,20 +13,14 @@ use Rattle.norm.specs.Words.{Words, body, reads, Barren}
 use Rattle.norm.specs.Norms.{norms}
 use Rattle.norm.specs.Tabled.{stored}
 use Rattle.norm.specs.Certified.{Certified, spelled}
-use Rattle.norm.specs.Measured.{makes, Best, Reached, Settled, Within, Beyond, IsBarren, IsLong}
+use Rattle.norm.specs.Measured.{norm_in, letter_in, makes, Best, Reached, Settled, Within, Beyond, IsBarren, IsLong}
+use Rattle.norm.specs.declared.best_rule.BestRule.{BestRule}
 use Rattle.norm.specs.declared.short_word.ShortWord.{ShortWord}
 use Rattle.norm.proofs.Along.{along_le, along_exact, along_top, each_along}
 use Rattle.norm.proofs.Certificates as certificates
 use Rattle.norm.proofs.Certificates.{ends_step, word_there}
 use Rattle.norm.proofs.Lowering.{each_from_places}
 use Rattle.norm.proofs.Weights.{each_front, each_back}
-
--- a list that is filled in, one place on
-pub filled_more : (P : ℕ → ℕ → Type 0) (xs : List ℕ) (i x : ℕ) → i < length xs → ((A : ℕ) → A < i → P A (get_or xs A 0)) → P i x → (A : ℕ) → A < i + 1 → P A (get_or (set xs i x) A 0)
-filled_more P xs i x h below here =
-    below_more (λ A. P A (get_or (set xs i x) A 0)) i
-    (λ A l. subst (P A) (sym (get_or-set_other xs i A x 0 (λ e. omega arith))) (below A l))
-    (subst (P i) (sym (get_or-set_same xs i x 0 h)) here)
 
 -- a rule in a table stands at one of its symbols
 pub stored_counted : (n : ℕ) (ws : List (Option ShortWord)) (A a : ℕ) → is_some (stored n ws A a) ≡ true → A < n
@@ -118,15 +112,40 @@ module _ (v n : ℕ) (R : Words) (counted : (A a : ℕ) → is_some (R A a) ≡ 
   pub barren : (A : ℕ) → suc v < norm A → Barren R A
   barren A h s e = let l = (live_reads s (A ∷ []) e).0 in omega arith
 
--- the same for a table of words with its measures and letters
+-- norms that are the same at the symbols of a word
+norms_same : (n : ℕ) (norm same : ℕ → ℕ) → ((A : ℕ) → A < n → same A ≡ norm A) → (w : Word) → Below n w → norms same w ≡ norms norm w
+norms_same n norm same h [] b = refl
+norms_same n norm same h (A ∷ w) b = let e = h A b.0 in let d = norms_same n norm same h w b.1 in omega arith
+
+certified_same : (v n : ℕ) (R : Words) (norm same letter : ℕ → ℕ) → ((A a : ℕ) → is_some (R A a) ≡ true → A < n) → ((A : ℕ) → A < n → same A ≡ norm A) → Certified v n R norm letter → Certified v n R same letter
+certified_same v n R norm same letter counted h C = record {
+  below = λ A a e. let d = h A (counted A a e) in let k = body_same A a in let l = C.below A a e in omega arith;
+  there = λ A l c. let d = h A l in C.there A l (omega arith);
+  attained = λ A l c. let d = h A l in let k = body_same A (letter A) in let e = C.attained A l (omega arith) in omega arith;
+  earliest = λ A a l e i. let d = h A l in let k = body_same A a in let j = C.earliest A a l e i in omega arith;
+  known = C.known;
+}
+  where
+    body_same : (A a : ℕ) → norms same (body (R A a)) ≡ norms norm (body (R A a))
+    body_same A a = norms_same n norm same h (body (R A a)) (C.known A a)
+
+-- the same for a table of words with its measures and best rules
 module _ (v n : ℕ) (ws : List (Option ShortWord)) (known : (A a k : ℕ) → k < length (body (stored n ws A a)) → get_or (body (stored n ws A a)) k 0 < n)
-    (norm letter : ℕ → ℕ) (reached : Reached v n (stored n ws) norm) (settled : Settled v n (stored n ws) norm)
-    (best : (A : ℕ) → A < n → (k : ℕ) × Best v (stored n ws) norm A k (letter A)) where
+    (norm : ℕ → ℕ) (reached : Reached v n (stored n ws) norm) (settled : Settled v n (stored n ws) norm)
+    (bs : List BestRule) (best : (A : ℕ) → A < n → Best v (stored n ws) norm A (norm_in bs A) (letter_in bs A)) where
   below : (A a : ℕ) → Below n (body (stored n ws A a))
   below A a = each_from_places (λ B. B < n) (body (stored n ws A a)) (known A a)
 
-  pub table_certified : Certified v n (stored n ws) norm letter
-  table_certified = certified v n (stored n ws) (stored_counted n ws) below norm reached settled letter best
+  least : (A : ℕ) → A < n → (k : ℕ) × Best v (stored n ws) norm A k (letter_in bs A)
+  least A h = (norm_in bs A, best A h)
+
+  pub table_norm : (A : ℕ) → A < n → norm_in bs A ≡ norm A
+  table_norm A h = best_norm v n (stored n ws) (stored_counted n ws) below norm reached settled A (norm_in bs A) (letter_in bs A) h (best A h)
+
+  pub table_certified : Certified v n (stored n ws) (norm_in bs) (letter_in bs)
+  table_certified =
+      certified_same v n (stored n ws) norm (norm_in bs) (letter_in bs) (stored_counted n ws) table_norm
+      (certified v n (stored n ws) (stored_counted n ws) below norm reached settled (letter_in bs) least)
 
   pub is_barren : (A : ℕ) → (A < n) × (suc v < norm A) × ((B : ℕ) → B < A → norm B ≤ suc v) → IsBarren n (stored n ws) A
   is_barren A h = record {
@@ -139,6 +158,6 @@ module _ (v n : ℕ) (ws : List (Option ShortWord)) (known : (A a k : ℕ) → k
   is_long A all h = record {
     symbol = h.0;
     live = λ B l. reached.lives B l (all B l);
-    here = beyond v n (stored n ws) (stored_counted n ws) below norm reached settled letter best A h.1;
-    before = λ B l. let m = h.0 in within v n (stored n ws) (stored_counted n ws) below norm reached settled letter best B (omega arith) (h.2 B l);
+    here = beyond v n (stored n ws) (stored_counted n ws) below norm reached settled (letter_in bs) least A h.1;
+    before = λ B l. let m = h.0 in within v n (stored n ws) (stored_counted n ws) below norm reached settled (letter_in bs) least B (omega arith) (h.2 B l);
   }

@@ -1,5 +1,5 @@
 -- Sums over the symbols of a word, and what holds of each symbol. Assumes nothing.
-use Rattle.std.proofs.Common.{◌≡◌, ℕ, zero, suc, ◌+◌, ◌<◌, ◌≤◌, [], ◌∷◌, ◌++◌, length, get_or, take, sym, refl, ap, ◌∙◌, subst, append_assoc, arith}
+use Rattle.std.proofs.Common.{◌≡◌, ℕ, zero, suc, ◌+◌, ◌<◌, ◌≤◌, min, [], ◌∷◌, ◌++◌, length, get_or, take, fold, sym, refl, ap, ◌∙◌, subst, append_assoc, arith}
 use Rattle.std.proofs.lemmas.List.{take_more}
 use Rattle.grammar.specs.Meaning.{Word, Input, Each}
 use Rattle.norm.specs.Norms.{norms, firsts}
@@ -44,5 +44,7 @@ each_at P (A ∷ w) (suc i) d h e = each_at P w i d (omega arith) e.1
 pub each_more : (P : ℕ → Type 0) (w : Word) (i d : ℕ) → i < length w → Each P (take i w) → P (get_or w i d) → Each P (take (i + 1) w)
 each_more P w i d h e p = subst (Each P) (sym (take_more w i d h)) (each_append P (take i w) (get_or w i d ∷ []) e (p, tt))
 
-pub norms_more_symbol : (norm : ℕ → ℕ) (w : Word) (i : ℕ) → i < length w → norms norm (take (i + 1) w) ≡ norms norm (take i w) + norm (get_or w i 0)
-norms_more_symbol norm w i h = let e = norms_append norm (take i w) (get_or w i 0 ∷ []) in ap (norms norm) (take_more w i 0 h) ∙ omega arith
+-- the same, added up to a limit
+pub norms_fold : (norm : ℕ → ℕ) (top : ℕ) (w : Word) (k : ℕ) → k ≤ top → fold (λ s B. min (s + norm B) top) k w ≡ min (k + norms norm w) top
+norms_fold norm top [] k h = omega arith
+norms_fold norm top (B ∷ w) k h = norms_fold norm top w (min (k + norm B) top) (omega arith) ∙ omega arith

@@ -1,7 +1,9 @@
 pub mod Words
 pub mod Norms
 pub mod Tabled
+pub mod Ruled
 pub mod Measured
+pub mod Measurings
 pub mod Certified
 pub mod Skeletons
 pub mod Laws

@@ -2,6 +2,8 @@
 --
 -- A measure is a norm of at most v, or v + 1 for more than v, or v + 2 where no input is known.
 -- measure ms A            the measure of A; v + 2 is kept where nothing is
+-- best_at bs A            the best rule of A
+-- norm_in, letter_in bs A its measure, and its letter
 -- along v norm k w        k and then the measures along w, as a measure
 -- through v norm w        what a rule with the word w makes of its symbol's measure
 -- makes v norm o          the same for a rule that may be there
@@ -16,11 +18,21 @@
 use Rattle.std.specs.Prelude.{◌≡◌, ℕ, suc, ◌+◌, ◌<◌, ◌≤◌, min, cond, List, [], ◌∷◌, length, Some, None, Option, nat_lt, slice_index_or}
 use Rattle.grammar.specs.Meaning.{Word, Input}
 use Rattle.norm.specs.Words.{Words, reads, Lives, Barren}
+use Rattle.norm.specs.declared.best_rule.BestRule.{BestRule}
 use Rattle.norm.specs.declared.fault.NormFault.{NormFault}
 use Rattle.norm.specs.declared.fault.NormFault.TheVariants.{NoInput, TooLong}
 
 abbrev pub measure : List ℕ → ℕ → ℕ
 measure ms A = slice_index_or ms A 66
+
+abbrev pub best_at : List BestRule → ℕ → BestRule
+best_at bs A = slice_index_or bs A (record { measure = 66; letter = 0 })
+
+abbrev pub norm_in : List BestRule → ℕ → ℕ
+norm_in bs A = (best_at bs A).measure
+
+abbrev pub letter_in : List BestRule → ℕ → ℕ
+letter_in bs A = (best_at bs A).letter
 
 abbrev pub along : ℕ → (ℕ → ℕ) → ℕ → Word → ℕ
 along v norm k [] = k

@@ -7,24 +7,24 @@
 -- summed k w       the norm of a word as a usize has it, at most 2^64 - 1
 --
 -- Assumes nothing.
-use Rattle.std.specs.Prelude.{ℕ, ◌-◌, ◌^◌, min, [], ◌∷◌, slice_index}
+use Rattle.std.specs.Prelude.{ℕ, ◌-◌, ◌^◌, min, [], ◌∷◌}
 use Rattle.grammar.specs.Meaning.{Word, Input}
 use Rattle.norm.specs.Words.{Words}
 use Rattle.norm.specs.Norms.{norms}
-use Rattle.norm.specs.Tabled.{stored}
-use Rattle.norm.specs.Measured.{measure}
+use Rattle.norm.specs.Ruled.{rules_of}
+use Rattle.norm.specs.Measured.{norm_in, letter_in}
 use Rattle.norm.specs.Certified.{spelled}
 use Rattle.norm.specs.declared.skeleton.Skeleton.{Skeleton}
 
 module _ (k : Skeleton) where
   abbrev pub rule_words : Words
-  rule_words = stored k.words.count k.words.words
+  rule_words = rules_of k.words
 
   abbrev pub norm_at : ℕ → ℕ
-  norm_at = measure k.norms
+  norm_at = norm_in k.best_rules
 
   abbrev pub letter_at : ℕ → ℕ
-  letter_at A = slice_index k.letters A
+  letter_at = letter_in k.best_rules
 
   abbrev pub first_at : ℕ → Input
   first_at A = spelled rule_words letter_at (norm_at A) (A ∷ [])

@@ -5,6 +5,7 @@ ghost use Rattle.norm.specs.Laws.{NormsLaw, OneNormed, CertificateLaw};
 
 use tally::Tally;
 
+mod best_rule;
 mod fault;
 mod first_inputs;
 mod lookup;
@@ -15,6 +16,7 @@ mod rule_words;
 mod short_word;
 mod skeleton;
 
+pub use best_rule::BestRule;
 pub use fault::NormFault;
 pub use first_inputs::WORD_CAPACITY;
 pub use lookup::{index_of, is_letter};

@@ -2,9 +2,10 @@
 ghost use Rattle.std.specs.Prelude.{◌≡◌, ◌≤◌, slice_index_or};
 ghost use Rattle.std.specs.Option.{option_map};
 ghost use Rattle.grammar.specs.Listed.{letter as lettered};
-ghost use Rattle.norm.specs.Tabled.{held, index, stored};
+ghost use Rattle.norm.specs.Tabled.{held, index};
+ghost use Rattle.norm.specs.Ruled.{rules_of};
 
-use crate::rule_words::{PLACES, RuleWords};
+use crate::rule_words::RuleWords;
 use crate::short_word::ShortWord;
 
 impl ShortWord {
@@ -19,11 +20,7 @@ impl ShortWord {
     pub fn symbol(&self, at: u8) -> u8
         ensures { result ≡ slice_index_or (held self.now) at 255 }
     {
-        if at < self.len {
-            self.symbols[at as usize]
-        } else {
-            255
-        }
+        self.as_slice().get(at as usize).copied().unwrap_or(255)
     }
 }
 
@@ -44,12 +41,11 @@ pub fn index_of(symbol: u8, letter: u8) -> usize
 impl RuleWords {
     // The word of the rule for the symbol and the letter, if there is one.
     pub fn word(&self, symbol: u8, letter: u8) -> Option<ShortWord>
-        ensures { option_map held result ≡ stored self.now.count self.now.words symbol letter }
+        ensures { option_map held result ≡ rules_of self.now symbol letter }
     {
         if symbol >= self.count || !is_letter(letter) {
             return None;
         }
-        let at = index_of(symbol, letter);
-        if at < PLACES { self.words[at] } else { None }
+        self.words.get(index_of(symbol, letter)).copied().flatten()
     }
 }

@@ -4,6 +4,7 @@ ghost use Rattle.std.specs.Prelude.{◌≡◌, ◌≤◌, length};
 pub const MAX_RULE: u8 = 4;
 
 // The word of a rule, in place: of the symbols the first `len` count.
+// No ArrayVec: it is not Copy, and a table of words begins as `[None; PLACES]`.
 #[derive(Clone, Copy, Drop)]
 pub struct ShortWord {
     pub symbols: [u8; 4],

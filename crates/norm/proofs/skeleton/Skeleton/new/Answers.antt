@@ -1,33 +1,39 @@
-use Rattle.std.proofs.Common.{ℕ, get_or}
-use Rattle.norm.specs.Measured.{measure}
-use Rattle.norm.proofs.Settling.{stored_counted, table_certified, is_barren, is_long}
+use Rattle.std.proofs.Common.{ℕ, ◌<◌, ◌≤◌, subst, arith}
+use Rattle.norm.specs.Ruled.{rules_of}
+use Rattle.norm.specs.Measured.{best_at, norm_in, IsBarren, IsLong}
+use Rattle.norm.specs.Measurings.{measured, IsBest}
+use Rattle.norm.proofs.Settling.{stored_counted, table_norm, table_certified, is_barren, is_long}
 use Rattle.norm.proofs.skeleton.Skeleton.new.Goals as goal
 
 pub returns-in-Some : goal.returns-in-Some
 returns-in-Some c =
-    let t = c.args.words in
-    let s = c.settle-norms in
-    let letter : ℕ → ℕ = λ A. get_or c.first_letters-letters.result A 0 in
-    is_barren 64 t.count t.words t.known (measure s.result) letter s.ensures.reached s.ensures.settled c.first_letters-letters.ensures c.in-Some.symbol c.in-Some.ensures
+    let s = c.settled-measuring in
+    let t = s.result.words in
+    subst (λ x. IsBarren x.count (rules_of x) c.in-Some.symbol) s.ensures.words
+    (is_barren 64 t.count t.words t.known (measured s.result) s.ensures.reached s.ensures.settled c.best_rules-best_rules.result
+    (λ A h. let few = t.few in c.best_rules-best_rules.ensures.each A (omega arith)) c.in-Some.symbol c.in-Some.ensures)
 
 pub returns-in-Some-first_above : goal.returns-in-Some-first_above
 returns-in-Some-first_above c =
-    let t = c.args.words in
-    let s = c.settle-norms in
-    let letter : ℕ → ℕ = λ A. get_or c.first_letters-letters.result A 0 in
-    is_long 64 t.count t.words t.known (measure s.result) letter s.ensures.reached s.ensures.settled c.first_letters-letters.ensures c.in-Some-first_above.symbol c.in_default.ensures c.in-Some-first_above.ensures
+    let s = c.settled-measuring in
+    let t = s.result.words in
+    subst (λ x. IsLong 64 x.count (rules_of x) c.in-Some-first_above.symbol) s.ensures.words
+    (is_long 64 t.count t.words t.known (measured s.result) s.ensures.reached s.ensures.settled c.best_rules-best_rules.result
+    (λ A h. let few = t.few in c.best_rules-best_rules.ensures.each A (omega arith)) c.in-Some-first_above.symbol c.in_default.ensures c.in-Some-first_above.ensures)
 
 pub invariant_of-result : goal.invariant_of-result
 invariant_of-result c =
-    let t = c.args.words in
-    let s = c.settle-norms in
-    let letter : ℕ → ℕ = λ A. get_or c.first_letters-letters.result A 0 in
+    let s = c.settled-measuring in
+    let t = s.result.words in
+    let bs = c.best_rules-best_rules.result in
+    let best : (A : ℕ) → A < t.count → IsBest s.result A (best_at bs A) = λ A h. let few = t.few in c.best_rules-best_rules.ensures.each A (omega arith) in
     let small = c.in_default-first_above.ensures in
-    let C = table_certified 64 t.count t.words t.known (measure s.result) letter s.ensures.reached s.ensures.settled c.first_letters-letters.ensures in
+    let C = table_certified 64 t.count t.words t.known (measured s.result) s.ensures.reached s.ensures.settled bs best in
+    let within : (A : ℕ) → A < t.count → norm_in bs A ≤ 64 = λ A h. let e = table_norm 64 t.count t.words t.known (measured s.result) s.ensures.reached s.ensures.settled bs best A h in let l = small A h in omega arith in
     record {
-      small = small;
+      small = within;
       below = C.below;
-      there = λ A h. C.there A h (small A h);
-      attained = λ A h. C.attained A h (small A h);
+      there = λ A h. C.there A h (within A h);
+      attained = λ A h. C.attained A h (within A h);
       earliest = λ A a e l. C.earliest A a (stored_counted t.count t.words A a e) e l;
     }
