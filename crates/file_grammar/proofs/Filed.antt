@@ -8,7 +8,8 @@ use Rattle.layout.specs.Contents.{FileRule, Contents, LegalRule, Legal}
 use Rattle.layout.specs.Reading.{checked}
 use Rattle.file_grammar.specs.Filed.{rule_at, weighed, held, file_meaning}
 use Rattle.file_grammar.specs.Placed.{Tables}
-use Rattle.file_grammar.specs.Tabled.{rule_of, index, rule_in, tabled}
+use Rattle.grammar.specs.Places.{index}
+use Rattle.file_grammar.specs.Tabled.{rule_of, rule_in, tabled}
 use Rattle.file_grammar.specs.declared.rule_table.RuleTable.{RuleTable}
 use Rattle.file_grammar.proofs.Placing.{rule_at_none}
 

@@ -17,7 +17,8 @@ use Rattle.grammar.specs.Listed.{capped}
 use Rattle.layout.specs.Contents.{FileRule, All, Rising, After, LegalRule, four, joined, rule_bytes}
 use Rattle.file_grammar.specs.Filed.{rule_at}
 use Rattle.file_grammar.specs.Placed.{RulesOf, Placed}
-use Rattle.file_grammar.specs.Tabled.{numbers_of, word_of, rule_of, index, rule_in}
+use Rattle.grammar.specs.Places.{index}
+use Rattle.file_grammar.specs.Tabled.{numbers_of, word_of, rule_of, rule_in}
 use Rattle.layout.proofs.Numbers.{from_four}
 use Rattle.layout.proofs.Ordered.{all_back}
 

@@ -12,7 +12,8 @@ use Rattle.grammar.specs.Meaning.{Letter}
 use Rattle.layout.specs.Contents.{FileRule, Contents, joined, rule_bytes}
 use Rattle.layout.specs.Wrong.{LegalRules}
 use Rattle.file_grammar.specs.Filed.{rule_at}
-use Rattle.file_grammar.specs.Tabled.{rule_of, index, rule_in}
+use Rattle.grammar.specs.Places.{index}
+use Rattle.file_grammar.specs.Tabled.{rule_of, rule_in}
 use Rattle.file_grammar.specs.declared.rule_table.RuleTable.{RuleTable}
 
 pub record RulesOf (k : ℕ) (bs : List ℕ) (rs : List FileRule) : Type 0 where

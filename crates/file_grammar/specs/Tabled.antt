@@ -4,7 +4,6 @@
 -- numbers_of k bs    the first k numbers
 -- word_of k bs       the word of the rule that bs begin with, behind k numbers; of its length at most 4 count
 -- rule_of k bs       the rule that bs begin with: symbol, letter, k numbers, length, word; a symbol of the word is at most 255
--- index A a          where a table has the rule at A and a
 -- rule_in rs i       the bytes that rs have at i, if there are any
 -- bytes_at t A a     the bytes that begin with the rule at A and a
 -- tabled made t      the grammar of the table t, tallies made of two numbers
@@ -15,6 +14,7 @@ use Rattle.std.specs.Borrow.{Bor}
 use Rattle.std.specs.Option.{option_map}
 use Rattle.grammar.specs.Meaning.{Word, Meaning}
 use Rattle.grammar.specs.Listed.{letter, capped}
+use Rattle.grammar.specs.Places.{index}
 use Rattle.layout.specs.Contents.{FileRule}
 use Rattle.file_grammar.specs.Filed.{weighed}
 use Rattle.file_grammar.specs.declared.rule_table.RuleTable.{RuleTable}
@@ -31,9 +31,6 @@ word_of k bs = take (min 4 (slice_index bs (4 * k + 2))) (drop (4 * k + 3) bs)
 
 abbrev pub rule_of : ℕ → List ℕ → FileRule
 rule_of k bs = record { symbol = slice_index bs 0; letter = slice_index bs 1; numbers = numbers_of k (drop 2 bs); word = capped (word_of k bs) }
-
-abbrev pub index : ℕ → ℕ → ℕ
-index A a = 26 * A + (a - 65)
 
 abbrev pub rule_in : List (Option (Bor (List ℕ))) → ℕ → Option (List ℕ)
 rule_in rs i = option_map (λ x. x.now) (slice_index_or rs i None)

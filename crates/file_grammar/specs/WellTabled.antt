@@ -8,7 +8,8 @@ use Rattle.grammar.specs.Meaning as meaning
 use Rattle.grammar.specs.Meaning.{Word, Weighted, Each, WellFormed}
 use Rattle.grammar.specs.Listed.{letter}
 use Rattle.grammar.specs.WellListed.{capped_bytes}
-use Rattle.file_grammar.specs.Tabled.{word_of, index, rule_in, bytes_at, tabled}
+use Rattle.grammar.specs.Places.{index}
+use Rattle.file_grammar.specs.Tabled.{word_of, rule_in, bytes_at, tabled}
 use Rattle.file_grammar.specs.declared.rule_table.RuleTable.{RuleTable}
 
 -- a rule has at most four symbols

@@ -2,13 +2,13 @@
 ghost use Rattle.std.specs.Prelude.{◌≡◌, List, Some, slice_set};
 ghost use Rattle.layout.specs.Contents.{FileRule, Contents, Legal};
 ghost use Rattle.file_grammar.specs.Placed.{RulesOf, Placed, Tables};
-ghost use Rattle.file_grammar.specs.Tabled.{index};
+ghost use Rattle.grammar.specs.Places.{index};
 ghost use Rattle.format.specs.Views.{Shows};
 
-use crate::places::index_of;
 use crate::rule_bytes::RuleBytes;
-use crate::rule_table::{PLACES, RuleTable};
+use crate::rule_table::RuleTable;
 use format::Checked;
+use grammar::{PLACES, index_of};
 
 // Writes the rule for the symbol and the letter at its place.
 fn put<'a>(rules: &mut [Option<&'a [u8]>; PLACES], symbol: u8, letter: u8, rule: &'a [u8])

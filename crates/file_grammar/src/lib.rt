@@ -3,7 +3,6 @@
 
 mod answers;
 mod fill;
-mod places;
 mod rule_bytes;
 mod rule_table;
 #[cfg(test)]
