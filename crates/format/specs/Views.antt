@@ -1,12 +1,14 @@
 -- What the code's answers stand for.
 --
--- took r        a value and the lent bytes that are left, as a reading gives them
--- newest xs     the item that was read last, if there is one
--- took_list r   the same where the value is a lent list
+-- took r rest            what a reader gives, and the bytes that are left, as a reading gives them
+-- took_list, took_row    the same where the value is a lent list, or a row
+-- newest xs              the item that was read last, if there is one
+-- After head before P    P holds behind any items, the newest first, where `before` is the head of the newest
 --
 -- Assumes nothing.
 use Rattle.std.specs.Prelude.{◌≡◌, ℕ, ◌<◌, true, List, [], ◌∷◌, length, Some, None, Ok, Err, Option, Result}
 use Rattle.std.specs.Borrow.{Bor}
+use Rattle.std.specs.Option.{option_map}
 use Rattle.layout.specs.Contents.{FileRule, FileRow, Contents, joined, rule_bytes, row_bytes}
 use Rattle.layout.specs.Reading.{Read, row, row_follows}
 use Rattle.format.specs.declared.row.Row.{Row}
@@ -14,40 +16,42 @@ use Rattle.format.specs.declared.row.Section.{Section}
 use Rattle.format.specs.declared.row.Checked.{Checked}
 use Rattle.layout.specs.declared.fault.Fault.{Fault}
 
-abbrev pub took : {X : Type 0} → Result (X × Bor (List ℕ)) Fault → Result (Read X) Fault
-took (Ok p) = Ok (record { value = p.0; rest = p.1.now })
-took (Err f) = Err f
+abbrev pub took : {X : Type 0} → Result X Fault → List ℕ → Result (Read X) Fault
+took (Ok x) rest = Ok (record { value = x; rest = rest })
+took (Err f) rest = Err f
 
-abbrev pub took_list : Result (Bor (List ℕ) × Bor (List ℕ)) Fault → Result (Read (List ℕ)) Fault
-took_list (Ok p) = Ok (record { value = p.0.now; rest = p.1.now })
-took_list (Err f) = Err f
+abbrev pub took_list : Result (Bor (List ℕ)) Fault → List ℕ → Result (Read (List ℕ)) Fault
+took_list (Ok xs) rest = Ok (record { value = xs.now; rest = rest })
+took_list (Err f) rest = Err f
 
 -- the item that was read last
 abbrev pub newest : {X : Type 0} → List X → Option X
 newest [] = None
 newest (x ∷ xs) = Some x
 
+-- what holds behind the items before
+abbrev pub After : {X H : Type 0} → (X → H) → Option H → (List X → Type 0) → Type 0
+After head before P = (xs : List _) → option_map head (newest xs) ≡ before → P xs
+
 -- what a reading gives, seen through f
 abbrev pub seen : {X Y : Type 0} → (X → Y) → Result (Read X) Fault → Result (Read Y) Fault
 seen f (Ok r) = Ok (record { value = f r.value; rest = r.rest })
 seen f (Err e) = Err e
 
--- the bytes that are left after a reading
-abbrev pub took_rest : Result (Bor (List ℕ)) Fault → Result (Read (Unit {0})) Fault
-took_rest (Ok r) = Ok (record { value = tt; rest = r.now })
-took_rest (Err f) = Err f
-
--- where a rule stands
+-- where a rule stands, and where a row does
 abbrev pub rule_head : FileRule → ℕ × ℕ
 rule_head r = (r.symbol, r.letter)
+
+abbrev pub row_head : FileRow → ℕ
+row_head r = r.symbol
 
 -- a row as it is lent
 abbrev pub row_of : Row → FileRow
 row_of r = record { symbol = r.symbol; word = r.word.now }
 
-abbrev pub took_row : Result (Row × Bor (List ℕ)) Fault → Result (Read FileRow) Fault
-took_row (Ok p) = Ok (record { value = row_of p.0; rest = p.1.now })
-took_row (Err f) = Err f
+abbrev pub took_row : Result Row Fault → List ℕ → Result (Read FileRow) Fault
+took_row (Ok r) rest = Ok (record { value = row_of r; rest = rest })
+took_row (Err f) rest = Err f
 
 -- a section's items as they lie in the bytes: how many, and their bytes
 pub record ReadItems {X : Type 0} (enc : X → List ℕ) (o : Result (Read (List X)) Fault) (section : Section) (rest : List ℕ) : Type 0 where
@@ -57,6 +61,10 @@ pub record ReadItems {X : Type 0} (enc : X → List ℕ) (o : Result (Read (List
   pub bytes : section.bytes.now ≡ joined enc items
 
 -- the section and what is left are what the reading o gives, or its fault
+abbrev pub GaveItems : {X : Type 0} → (X → List ℕ) → Result (Read (List X)) Fault → Result Section Fault → List ℕ → Type 0
+GaveItems enc o (Ok section) rest = ReadItems enc o section rest
+GaveItems enc o (Err f) rest = o ≡ Err f
+
 abbrev pub TookItems : {X : Type 0} → (X → List ℕ) → Result (Read (List X)) Fault → Result (Section × Bor (List ℕ)) Fault → Type 0
 TookItems enc o (Ok p) = ReadItems enc o p.0 p.1.now
 TookItems enc o (Err f) = o ≡ Err f

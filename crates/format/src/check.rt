@@ -6,20 +6,17 @@ ghost use Rattle.layout.specs.Reading.{checked, place};
 ghost use Rattle.layout.specs.declared.fault.Fault.TheVariants.{Trailing};
 ghost use Rattle.format.specs.Views.{Answers};
 
-use crate::fields::place_of;
 use crate::file_tally::{FileTally, has_kinds};
-use crate::lists::{kinds_section, names_section};
+use crate::reader::Reader;
 use crate::row::Checked;
-use crate::rows::rows_in;
-use crate::rules::rules_section;
 use layout::Fault;
 
 // Judges that nothing is left.
-fn all_read(total: usize, rest: &[u8]) -> Result<(), Fault>
-    ensures { MatchResult result (λ _. length rest.now ≡ 0) (λ f. (0 < length rest.now) × (f ≡ Trailing (place total rest.now))) }
+fn all_read(reader: &Reader<'_>) -> Result<(), Fault>
+    ensures { MatchResult result (λ _. length reader.now.left.now ≡ 0) (λ f. (0 < length reader.now.left.now) × (f ≡ Trailing (place reader.now.total reader.now.left.now))) }
 {
-    if !rest.is_empty() {
-        return Err(Fault::Trailing(place_of(total, rest)));
+    if !reader.left.is_empty() {
+        return Err(Fault::Trailing(reader.place()));
     }
     Ok(())
 }
@@ -28,16 +25,19 @@ fn all_read(total: usize, rest: &[u8]) -> Result<(), Fault>
 fn parts<T: FileTally>(bytes: &[u8]) -> Result<Checked<'_>, Fault>
     ensures { Answers (checked T.FileTally.kinds bytes.now) result }
 {
-    let total = bytes.len();
-    let (names, rest) = names_section(total, bytes)?;
-    let (kinds, rest) = kinds_section(total, rest)?;
+    let mut reader = Reader {
+        total: bytes.len(),
+        left: bytes,
+    };
+    let names = reader.names()?;
+    let kinds = reader.kinds()?;
     if !has_kinds::<T>(kinds) {
         return Err(Fault::Kinds);
     }
     let count = names.len() as u8;
-    let (rules, rest) = rules_section(total, rest, count, kinds.len() as u8)?;
-    let (rows, rest) = rows_in(total, rest, count)?;
-    all_read(total, rest)?;
+    let rules = reader.rules(count, kinds.len() as u8)?;
+    let rows = reader.rows(count)?;
+    all_read(&reader)?;
     Ok(Checked {
         names,
         kinds,

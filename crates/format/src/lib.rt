@@ -4,9 +4,9 @@
 mod check;
 mod contents;
 mod encode;
-mod fields;
 mod file_tally;
 mod lists;
+mod reader;
 mod row;
 mod rows;
 mod rules;

@@ -1,88 +1,71 @@
 // The section of rows, one reader for files and offers.
-ghost use Rattle.std.specs.Prelude.{◌≡◌, List};
-ghost use Rattle.std.specs.Option.{option_map};
-ghost use Rattle.layout.specs.Contents.{FileRow, row_bytes};
+ghost use Rattle.std.specs.Prelude.{◌≡◌};
+ghost use Rattle.layout.specs.Contents.{row_bytes};
 ghost use Rattle.layout.specs.Laws.{RowsLaw};
-ghost use Rattle.layout.specs.Reading.{row, rows, row_follows};
-ghost use Rattle.format.specs.Views.{took_row, newest, Judged, TookItems};
+ghost use Rattle.layout.specs.Reading.{row, rows};
+ghost use Rattle.format.specs.Views.{took_row, row_head, After, Judged, GaveItems, TookItems};
 
-use crate::fields::{count_within, place_of};
-use crate::lists::word_of;
+use crate::reader::Reader;
 use crate::row::{Row, Section};
 use layout::Fault;
 
-// Whether a row at the symbol comes after the one before it.
-fn comes_after(before: Option<u8>, symbol: u8) -> bool
-    ensures { (xs : List FileRow) → option_map (λ x. x.symbol) (newest xs) ≡ before → result ≡ row_follows xs symbol }
-{
-    match before {
-        Some(last) => last < symbol,
-        None => true,
+impl<'a> Reader<'a> {
+    // Judges the symbol of the row that comes next: below `count`, and after the row before it.
+    fn judge_symbol(&self, symbol: u8, count: u8, before: Option<u8>) -> Result<(), Fault>
+        ensures { After row_head before (λ xs. Judged self.now.total count xs symbol self.now.left.now result) }
+    {
+        if symbol >= count {
+            return Err(Fault::Symbol(self.place()));
+        }
+        if before >= Some(symbol) {
+            return Err(Fault::Order(self.place()));
+        }
+        Ok(())
     }
-}
 
-// Judges the symbol of the row that the bytes begin with: below `count`, and after the row before it.
-fn judge_symbol(
-    total: usize,
-    bytes: &[u8],
-    symbol: u8,
-    count: u8,
-    before: Option<u8>,
-) -> Result<(), Fault>
-    ensures { (xs : List FileRow) → option_map (λ x. x.symbol) (newest xs) ≡ before → Judged total count xs symbol bytes.now result }
-{
-    if symbol >= count {
-        return Err(Fault::Symbol(place_of(total, bytes)));
-    }
-    if !comes_after(before, symbol) {
-        return Err(Fault::Order(place_of(total, bytes)));
-    }
-    Ok(())
-}
-
-// A row: its symbol, after the one before it, its length 1 to 64 and that many symbols. A wrong symbol
-// is told before the bytes are found to end.
-fn row_after(
-    total: usize,
-    bytes: &[u8],
-    count: u8,
-    before: Option<u8>,
-) -> Result<(Row<'_>, &[u8]), Fault>
-    ensures { (xs : List FileRow) → option_map (λ x. x.symbol) (newest xs) ≡ before → took_row result ≡ row total count xs bytes.now }
-{
-    match bytes {
-        [symbol, length, rest @ ..] => {
-            judge_symbol(total, bytes, *symbol, count, before)?;
-            if *length < 1 || *length > 64 {
-                return Err(Fault::Limit(place_of(total, bytes.split_at(1).1)));
+    // A row: its symbol, after the one before it, its length 1 to 64 and that many symbols. A wrong
+    // symbol is told before the bytes are found to end.
+    fn row(&mut self, count: u8, before: Option<u8>) -> Result<Row<'a>, Fault>
+        ensures read { After row_head before (λ xs. took_row result self.new.left.now ≡ row self.old.total count xs self.old.left.now) }
+        ensures total { self.new.total ≡ self.old.total }
+    {
+        match self.left {
+            [symbol, length, rest @ ..] => {
+                self.judge_symbol(*symbol, count, before)?;
+                if !(1..=64).contains(length) {
+                    return Err(Fault::Limit(self.total.saturating_sub(rest.len() + 1)));
+                }
+                self.left = rest;
+                let word = self.word(count, *length)?;
+                Ok(Row {
+                    symbol: *symbol,
+                    word,
+                })
             }
-            let (word, left) = word_of(total, rest, count, *length)?;
-            let symbol = *symbol;
-            Ok((Row { symbol, word }, left))
+            [symbol] => {
+                self.judge_symbol(*symbol, count, before)?;
+                Err(Fault::Short(self.total))
+            }
+            [] => Err(Fault::Short(self.total)),
         }
-        [symbol] => {
-            judge_symbol(total, bytes, *symbol, count, before)?;
-            Err(Fault::Short(total))
-        }
-        [] => Err(Fault::Short(total)),
     }
-}
 
-// The section of rows over `count` symbols.
-pub(crate) fn rows_in(total: usize, bytes: &[u8], count: u8) -> Result<(Section<'_>, &[u8]), Fault>
-    ensures { TookItems row_bytes (rows total count bytes.now) result }
-{
-    let (size, body) = count_within(total, bytes, 0, 31)?;
-    let mut left = body;
-    let mut before = None;
-    for _k in 0..size {
-        let (row, rest) = row_after(total, left, count, before)?;
-        before = Some(row.symbol);
-        left = rest;
+    // The section of rows over `count` symbols.
+    pub(crate) fn rows(&mut self, count: u8) -> Result<Section<'a>, Fault>
+        ensures read { GaveItems row_bytes (rows self.old.total count self.old.left.now) result self.new.left.now }
+        ensures total { self.new.total ≡ self.old.total }
+    {
+        let size = self.count_within(0, 31)?;
+        let body = self.left;
+        let mut before = None;
+        for _k in 0..size {
+            before = Some(self.row(count, before)?.symbol);
+        }
+        Ok(Section {
+            count: size as usize,
+            bytes: self.read_of(body),
+        })
     }
-    let count = size as usize;
-    let bytes = body.split_at(body.len().saturating_sub(left.len())).0;
-    Ok((Section { count, bytes }, left))
 }
 
 // Reads the section of rows over `count` symbols that the bytes begin with, the last ones of `total`: the
@@ -91,5 +74,7 @@ pub fn rows_section(total: usize, bytes: &[u8], count: u8) -> Result<(Section<'_
     ensures value { TookItems row_bytes (rows total count bytes.now) result }
     ensures law { RowsLaw total count bytes.now }
 {
-    rows_in(total, bytes, count)
+    let mut reader = Reader { total, left: bytes };
+    let rows = reader.rows(count)?;
+    Ok((rows, reader.left))
 }

@@ -1,0 +1,82 @@
+// A reader of a file's bytes, and its readings of single fields and of words.
+ghost use Rattle.std.specs.Prelude.{◌≡◌, length, ◌-◌, take};
+ghost use Rattle.layout.specs.Laws.{Bytes};
+ghost use Rattle.layout.specs.Reading.{one, within, below, word, ended, place};
+ghost use Rattle.format.specs.Views.{took, took_list};
+
+use layout::Fault;
+
+// How many bytes there are in all, and those that are left to be read. After a fault no more is read.
+#[derive(Drop)]
+pub(crate) struct Reader<'a> {
+    pub(crate) total: usize,
+    pub(crate) left: &'a [u8],
+}
+
+impl<'a> Reader<'a> {
+    // Where the bytes that are left begin.
+    pub(crate) fn place(&self) -> usize
+        ensures { result ≡ place self.now.total self.now.left.now }
+    {
+        self.total.saturating_sub(self.left.len())
+    }
+
+    // What was read of `body`, which was left before.
+    pub(crate) fn read_of(&self, body: &'a [u8]) -> &'a [u8]
+        ensures value { result.now ≡ take (length body.now - length self.now.left.now) body.now }
+        ensures bytes { Bytes body.now }
+    {
+        body.split_at(body.len().saturating_sub(self.left.len())).0
+    }
+
+    // One byte.
+    pub(crate) fn byte(&mut self) -> Result<u8, Fault>
+        ensures read { took result self.new.left.now ≡ one self.old.total self.old.left.now }
+        ensures total { self.new.total ≡ self.old.total }
+    {
+        match self.left.split_off_first() {
+            Some(byte) => Ok(*byte),
+            None => Err(Fault::Short(self.total)),
+        }
+    }
+
+    // A count or a length from `low` to `high`.
+    pub(crate) fn count_within(&mut self, low: u8, high: u8) -> Result<u8, Fault>
+        ensures read { took result self.new.left.now ≡ within self.old.total low high self.old.left.now }
+        ensures total { self.new.total ≡ self.old.total }
+    {
+        let place = self.place();
+        let count = self.byte()?;
+        if (low..=high).contains(&count) {
+            Ok(count)
+        } else {
+            Err(Fault::Limit(place))
+        }
+    }
+
+    // A symbol below `count`.
+    pub(crate) fn symbol_below(&mut self, count: u8) -> Result<u8, Fault>
+        ensures read { took result self.new.left.now ≡ below self.old.total count self.old.left.now }
+        ensures total { self.new.total ≡ self.old.total }
+    {
+        let place = self.place();
+        let symbol = self.byte()?;
+        if symbol < count {
+            Ok(symbol)
+        } else {
+            Err(Fault::Symbol(place))
+        }
+    }
+
+    // `len` symbols below `count`.
+    pub(crate) fn word(&mut self, count: u8, len: u8) -> Result<&'a [u8], Fault>
+        ensures read { took_list result self.new.left.now ≡ word self.old.total count len self.old.left.now }
+        ensures total { self.new.total ≡ self.old.total }
+    {
+        let body = self.left;
+        for _k in 0..len {
+            self.symbol_below(count)?;
+        }
+        Ok(self.read_of(body))
+    }
+}
