@@ -6,7 +6,7 @@ ghost use Rattle.sheet.specs.Marked.{has as set_in, number, Least};
 pub const ROWS: u8 = 32;
 
 // The marks of a sheet. A symbol's mark is the bit of its number.
-#[derive(Clone, Copy, Drop)]
+#[derive(Clone, Copy, Debug, PartialEq, Eq)]
 pub struct Marks {
     pub bits: u32,
     ghost fits: { bits < 2 ^ 32 },

@@ -4,7 +4,8 @@ ghost use Rattle.std.specs.Prelude.{◌≡◌, ◌≤◌, length};
 pub const MAX_ROW: usize = 64;
 
 // The word of a row, in place: of the symbols the first `len` count.
-#[derive(Clone, Copy, Drop)]
+// No ArrayVec: it is not Copy, and a table of rows begins as copies of one.
+#[derive(Clone, Copy)]
 pub struct Row {
     pub symbols: [u8; MAX_ROW],
     pub len: u8,

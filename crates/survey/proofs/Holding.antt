@@ -3,12 +3,12 @@
 -- The idea: the table has the words of all rules, and so just the grammar's rules; its norms and letters are a certificate over those words, and a certificate gives norms and first inputs.
 --
 -- Assumes nothing.
-use Rattle.std.proofs.Common.{◌≡◌, ℕ, ◌+◌, ◌*◌, ◌/◌, ◌%◌, ◌<◌, [], ◌∷◌, length, get_or, is_some, Some, None, Option, sym, refl, ap, ◌∙◌, subst, arith}
+use Rattle.std.proofs.Common.{◌≡◌, ℕ, ◌<◌, [], ◌∷◌, length, get_or, is_some, Some, None, Option, sym, refl, ap, ◌∙◌, subst, arith}
 use Rattle.std.proofs.lemmas.Option.{slice_get-get_or}
 use Rattle.std.specs.List.{slice_get}
 use Rattle.std.specs.Option.{option_map}
 use Rattle.tally.specs.Group.{Group}
-use Rattle.grammar.specs.Meaning.{Word, Weighted, Meaning, tally_of}
+use Rattle.grammar.specs.Meaning.{Word, Weighted, Meaning, Letter, tally_of}
 use Rattle.norm.specs.Words.{words_of}
 use Rattle.norm.specs.Norms.{First, Normed, norms}
 use Rattle.norm.specs.Tabled.{index}
@@ -53,7 +53,7 @@ module _ {T : Type 0} (s : Survey T) where
 
   -- The grammar M that was taken up, with its tallies at their places.
   module _ (𝓣 : Group T) (M : Meaning T) (up : TakenUp 32 M count_in s.skeleton.words.words)
-      (tallies : (k : ℕ) (d : T) → k < 26 * count_in → k < 832 → get_or s.tallies k d ≡ tally_of 𝓣.zero (M.rule (k / 26) (65 + k % 26))) where
+      (tallies : (A a : ℕ) (d : T) → A < count_in → Letter a → get_or s.tallies (index A a) d ≡ tally_of 𝓣.zero (M.rule A a)) where
     rule_same : (A a : ℕ) → (surveyed s).rule A a ≡ M.rule A a
     rule_same A a = go (M.rule A a) refl
       where
@@ -67,10 +67,7 @@ module _ {T : Type 0} (s : Survey T) where
             let high = t.1.1 in
             let few = s.skeleton.words.few in
             let room = s.room in
-            let d : index A a / 26 ≡ A = omega arith in
-            let r : 65 + index A a % 26 ≡ a = omega arith in
-            let held : get_or s.tallies (index A a) 𝓣.zero ≡ m.tally =
-            tallies (index A a) 𝓣.zero (omega arith) (omega arith) ∙ ap (λ x. tally_of 𝓣.zero (M.rule x (65 + index A a % 26))) d ∙ ap (λ x. tally_of 𝓣.zero (M.rule A x)) r ∙ ap (tally_of 𝓣.zero) e in
+            let held : get_or s.tallies (index A a) 𝓣.zero ≡ m.tally = tallies A a 𝓣.zero t.0 t.1 ∙ ap (tally_of 𝓣.zero) e in
             let found : slice_get s.tallies (index A a) ≡ Some m.tally = slice_get-get_or s.tallies (index A a) 𝓣.zero (omega arith) ∙ ap {B = Option T} Some held in
             both (words_in s A a) (slice_get s.tallies (index A a)) there found
           where

@@ -8,7 +8,7 @@ ghost use Rattle.survey.specs.WellSurveyed.{surveyed_wellformed};
 
 use crate::table::Survey;
 use grammar::Grammar;
-use norm::{PLACES, ShortWord, index_of};
+use norm::{ShortWord, index_of};
 use tally::Tally;
 
 impl<T: Tally> Survey<T> {
@@ -36,25 +36,22 @@ impl<T: Tally> Grammar for Survey<T> {
     }
 
     fn rule_len(&self, symbol: u8, letter: u8) -> u8 {
-        match self.rule_word(symbol, letter) {
-            Some(word) => word.len,
-            None => 0,
-        }
+        self.rule_word(symbol, letter).map_or(0, |word| word.len)
     }
 
     fn rule_symbol(&self, symbol: u8, letter: u8, at: u8) -> u8 {
-        match self.rule_word(symbol, letter) {
-            Some(word) => word.symbol(at),
-            None => 255,
-        }
+        self.rule_word(symbol, letter)
+            .map_or(255, |word| word.symbol(at))
     }
 
     fn rule_tally(&self, symbol: u8, letter: u8) -> T {
-        if self.rule_word(symbol, letter).is_none() {
-            return T::zero();
+        match self.rule_word(symbol, letter) {
+            Some(_) => self
+                .tallies
+                .get(index_of(symbol, letter))
+                .copied()
+                .unwrap_or(T::zero()),
+            None => T::zero(),
         }
-        let tallies = &self.tallies[..];
-        let at = index_of(symbol, letter);
-        if at < PLACES { tallies[at] } else { T::zero() }
     }
 }

@@ -6,15 +6,15 @@ use crate::fault::GrammarFault;
 use layout::{FaultCode, Layer};
 use norm::NormFault;
 
-impl GrammarFault {
-    // The fault's number, its layer, and its two numbers.
-    pub fn code(self) -> FaultCode
-        ensures { result ≡ code_of self }
-    {
-        let (number, first, second) = match self {
+// The fault's number, its layer, and its two numbers.
+impl From<GrammarFault> for FaultCode {
+    ghost from_gives = { λ f r. r ≡ code_of f };
+
+    fn from(fault: GrammarFault) -> FaultCode {
+        let (number, first, second) = match fault {
             GrammarFault::Count(count) => (8, count, 0),
-            GrammarFault::LongRule(symbol, letter) => (9, symbol, letter),
-            GrammarFault::StraySymbol(symbol, letter) => (10, symbol, letter),
+            GrammarFault::LongRule { symbol, letter } => (9, symbol, letter),
+            GrammarFault::StraySymbol { symbol, letter } => (10, symbol, letter),
             GrammarFault::NoInput(symbol) => (11, symbol, 0),
             GrammarFault::TooLong(symbol) => (12, symbol, 0),
         };

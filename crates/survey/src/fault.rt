@@ -5,10 +5,10 @@
 pub enum GrammarFault {
     // 8: there is no symbol, or more than 32 (the count).
     Count(u8),
-    // 9: a rule has more than 4 symbols (its symbol and letter).
-    LongRule(u8, u8),
-    // 10: a rule names a symbol that is not below the count (its symbol and letter).
-    StraySymbol(u8, u8),
+    // 9: a rule has more than 4 symbols.
+    LongRule { symbol: u8, letter: u8 },
+    // 10: a rule names a symbol that is not below the count.
+    StraySymbol { symbol: u8, letter: u8 },
     // 11: a symbol takes no input (the smallest such symbol).
     NoInput(u8),
     // 12: the norm of a symbol passes 64 (the smallest such symbol).

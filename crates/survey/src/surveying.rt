@@ -17,8 +17,7 @@ pub fn survey<G: Grammar>(g: &G) -> Result<Survey<G::T>, GrammarFault>
     ensures law { OneVerdict 32 64 G.T.Tally.group (G.Grammar.meaning g.now) }
 {
     let words = rule_words(g)?;
-    let count = words.count;
     let skeleton = Skeleton::new(words)?;
-    let tallies = rule_tallies(g, count);
+    let tallies = rule_tallies(g, &skeleton.words);
     Ok(Survey { skeleton, tallies })
 }

@@ -3,7 +3,8 @@ ghost use Rattle.std.specs.Prelude.{◌≡◌, length};
 use norm::{PLACES, Skeleton};
 
 // An accepted grammar, taken up whole: the words of its rules with norms and first letters, and the
-// tallies of its rules, each at its rule's place.
+// tallies of its rules, each at its rule's place. They stand apart, as no ghost field could speak of
+// the words in an array of structs with a type parameter.
 #[derive(Drop)]
 pub struct Survey<T> {
     pub(crate) skeleton: Skeleton,

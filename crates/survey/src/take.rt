@@ -1,15 +1,15 @@
 // Takes up the rules of a grammar of any make.
-ghost use Rattle.std.specs.Prelude.{◌≡◌, ℕ, ◌+◌, ◌*◌, ◌/◌, ◌%◌, ◌<◌, length, Ok, Err, slice_index_or};
+ghost use Rattle.std.specs.Prelude.{◌≡◌, ℕ, ◌<◌, length, Ok, Err, slice_index_or};
 ghost use Rattle.std.specs.Option.{option_map};
-ghost use Rattle.grammar.specs.Meaning.{tally_of};
+ghost use Rattle.grammar.specs.Meaning.{Letter, tally_of};
 ghost use Rattle.norm.specs.Words.{words_of};
-ghost use Rattle.norm.specs.Tabled.{held};
+ghost use Rattle.norm.specs.Tabled.{held, index};
 ghost use Rattle.survey.specs.Refusals.{Fine, BadRule, Refused};
 ghost use Rattle.survey.specs.Laws.{TakenUp};
 
 use crate::fault::GrammarFault;
 use grammar::Grammar;
-use norm::{MAX_RULE, MAX_SYMBOLS, PLACES, RuleWords, ShortWord};
+use norm::{MAX_RULE, MAX_SYMBOLS, PLACES, RuleWords, ShortWord, index_of};
 use tally::Tally;
 
 // The word of the rule for the symbol and the letter, if there is a rule; or what is wrong with it.
@@ -23,21 +23,14 @@ fn rule_word<G: Grammar>(
 {
     let len = g.rule_len(symbol, letter);
     if len > MAX_RULE {
-        return Err(GrammarFault::LongRule(symbol, letter));
+        return Err(GrammarFault::LongRule { symbol, letter });
     }
-    let mut symbols = [0; 4];
-    for at in 0..len {
-        let named = g.rule_symbol(symbol, letter, at);
-        if named >= count {
-            return Err(GrammarFault::StraySymbol(symbol, letter));
-        }
-        symbols[at as usize] = named;
+    let symbols = std::array::from_fn(|at| g.rule_symbol(symbol, letter, at as u8));
+    let word = ShortWord { symbols, len };
+    if !word.as_slice().iter().all(|named| *named < count) {
+        return Err(GrammarFault::StraySymbol { symbol, letter });
     }
-    if g.has_rule(symbol, letter) {
-        Ok(Some(ShortWord { symbols, len }))
-    } else {
-        Ok(None)
-    }
+    Ok(g.has_rule(symbol, letter).then_some(word))
 }
 
 // The words of a grammar's rules; or the count, or the first rule, that it is refused for.
@@ -49,26 +42,25 @@ pub(crate) fn rule_words<G: Grammar>(g: &G) -> Result<RuleWords, GrammarFault>
         return Err(GrammarFault::Count(count));
     }
     let mut words = [None; PLACES];
-    for place in 0..26 * count as usize {
-        let symbol = (place / 26) as u8;
-        let letter = b'A' + (place % 26) as u8;
-        let word = rule_word(g, count, symbol, letter)?;
-        words[place] = word;
+    for symbol in 0..count {
+        for letter in b'A'..=b'Z' {
+            let word = rule_word(g, count, symbol, letter)?;
+            words[index_of(symbol, letter)] = word;
+        }
     }
     Ok(RuleWords { count, words })
 }
 
-// The tallies of the rules, each at its rule's place, and zero elsewhere.
-pub(crate) fn rule_tallies<G: Grammar>(g: &G, count: u8) -> [G::T; PLACES]
+// The tallies of the rules of a grammar with these words, each at its rule's place.
+pub(crate) fn rule_tallies<G: Grammar>(g: &G, words: &RuleWords) -> [G::T; PLACES]
     ensures size { length result ≡ 832 }
-    ensures each { (k : ℕ) (d : G.T) → k < 26 * count → k < 832 → slice_index_or result k d ≡ tally_of G.T.Tally.group.zero ((G.Grammar.meaning g.now).rule (k / 26) (65 + k % 26)) }
+    ensures each { (A a : ℕ) (d : G.T) → A < words.now.count → Letter a → slice_index_or result (index A a) d ≡ tally_of G.T.Tally.group.zero ((G.Grammar.meaning g.now).rule A a) }
 {
     let mut tallies = [<G::T as Tally>::zero(); PLACES];
-    let end = PLACES.min(26 * count as usize);
-    for place in 0..end {
-        let symbol = (place / 26) as u8;
-        let letter = b'A' + (place % 26) as u8;
-        tallies[place] = g.rule_tally(symbol, letter);
+    for symbol in 0..words.count {
+        for letter in b'A'..=b'Z' {
+            tallies[index_of(symbol, letter)] = g.rule_tally(symbol, letter);
+        }
     }
     tallies
 }

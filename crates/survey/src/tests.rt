@@ -1,5 +1,6 @@
 use crate::*;
 use grammar::{ListGrammar, RuleRecord, RuleWord};
+use layout::FaultCode;
 use std::alloc::{AllocError, Global};
 use std::test::Fail;
 use tally::Untallied;
@@ -27,7 +28,7 @@ fn refusal(
     match survey(&g) {
         Ok(_) => Ok((0, 0, 0)),
         Err(fault) => {
-            let code = fault.code();
+            let code = FaultCode::from(fault);
             Ok((code.number, code.first, code.second))
         }
     }

@@ -1,4 +1,4 @@
-use Rattle.std.proofs.Common.{◌≡◌, ◌*◌, ◌<◌, sym, subst}
+use Rattle.std.proofs.Common.{◌≡◌, sym, subst}
 use Rattle.std.proofs.lemmas.Result.{err_from_is_err_and}
 use Rattle.norm.specs.declared.rule_words.RuleWords.{RuleWords}
 use Rattle.survey.specs.Laws.{TakenUp}
@@ -30,6 +30,6 @@ returns g c =
     let same : s.words ≡ t = c.in_ok-skeleton.ensures in
     let up : TakenUp 32 M s.words.count s.words.words = subst (λ (w : RuleWords). TakenUp 32 M w.count w.words) (sym same) c.in_ok-words.ensures in
     record {
-      value = surveys _ g.G.T.Tally.group M up (λ k d h l. c.rule_tallies-tallies.ensures.each k d (subst (λ (w : RuleWords). k < 26 * w.count) same h) l);
+      value = surveys _ g.G.T.Tally.group M up (λ A a d h l. c.rule_tallies-tallies.ensures.each A a d h l);
       law = one_verdict 32 64 g.G.T.Tally.group M;
     }

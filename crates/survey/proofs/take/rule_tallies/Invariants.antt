@@ -1,6 +1,10 @@
-use Rattle.std.proofs.Common.{◌≡◌, ℕ, ◌+◌, ◌/◌, ◌%◌, ◌<◌, length, get_or}
+use Rattle.std.proofs.Common.{◌≡◌}
 use Rattle.grammar.specs.Meaning.{tally_of}
+use Rattle.survey.proofs.Filling.{Placed}
 use Rattle.survey.proofs.take.rule_tallies.Given as goal
 
-abbrev pub invariant-loop-place : goal.invariant-loop-place
-invariant-loop-place g l = (length l.tallies ≡ 832) × ((k : ℕ) (d : g.row.G-T.Denot) → k < l.place → get_or l.tallies k d ≡ tally_of g.G.T.Tally.group.zero ((g.G.Grammar.meaning l.g).rule (k / 26) (65 + k % 26)))
+abbrev pub invariant-loop-symbol : goal.invariant-loop-symbol
+invariant-loop-symbol g l = Placed {X = g.row.G-T.Denot} (λ A a t. t ≡ tally_of g.G.T.Tally.group.zero ((g.G.Grammar.meaning l.g).rule A a)) l.tallies l.symbol 65
+
+abbrev pub invariant-loop-letter : goal.invariant-loop-letter
+invariant-loop-letter g l = Placed {X = g.row.G-T.Denot} (λ A a t. t ≡ tally_of g.G.T.Tally.group.zero ((g.G.Grammar.meaning l.g).rule A a)) l.tallies l.symbol l.letter

@@ -1,25 +1,36 @@
-use Rattle.std.proofs.Common.{◌≡◌, Some, Option, sym, ap, ◌∙◌, arith, rules}
+use Rattle.std.proofs.Common.{◌≡◌, ◌↔◌, ◌<◌, IsTrue, take, get_or, sym, ap, ◌∙◌, arith, rules}
+use borrow.Author.Tests.{clash}
+use Rattle.std.specs.Option.{option_map}
+use Rattle.std.specs.List.{All}
 use Rattle.grammar.specs.Meaning.{Word, word_of}
-use Rattle.survey.proofs.Takings.{copied_more, copied_all, strayed, word_of_there}
+use Rattle.norm.specs.Tabled.{held}
+use Rattle.norm.proofs.FromFn.{from_fn_each}
+use Rattle.survey.proofs.Takings.{copied, strayed, fine, there}
 use Rattle.survey.proofs.take.rule_word.Goals as goal
 
-pub returns-then-named-count : goal.returns-then-named-count
-returns-then-named-count g c =
+pub returns-then-not-all : goal.returns-then-not-all
+returns-then-not-all g c =
     let M = g.G.Grammar.meaning c.args.g.now in
+    let w : Word = word_of (M.rule c.args.symbol c.args.letter) in
     let size = c.rule_len-len.ensures in
-    strayed c.args.count M c.args.symbol c.args.letter c.loop-at.at c.rule_symbol-named.result (omega arith) (omega arith) c.rule_symbol-named.ensures c.if-named-count.true
+    let from = c.from_fn-symbols.ensures.items in
+    let same : take c.rule_len-len.result c.from_fn-symbols.result ≡ w =
+    copied c.rule_len-len.result c.from_fn-symbols.result w from.long size (omega arith)
+    (λ i d h. from_fn_each _ _ 4 (λ i y. y ≡ get_or w i 255) (λ i y q l k. search rules) c.from_fn-symbols.result 0 4 (omega arith) from.each i d (omega arith) h) in
+    let told : IsTrue c.all.result ↔ All (λ B. B < c.args.count) c.as_slice.result.now = search rules in
+    strayed c.args.count M c.args.symbol c.args.letter c.as_slice.result.now (c.as_slice.ensures ∙ same) (omega arith) (λ h. clash (sym c.if-not-all.true ∙ told.1 h))
 
-pub loop-at-preserved : goal.loop-at-preserved
-loop-at-preserved g c =
-    let w : Word = word_of ((g.G.Grammar.meaning c.args.g.now).rule c.args.symbol c.args.letter) in
-    let size = c.rule_len-len.ensures in
-    copied_more c.args.count w c.loop-at.at c.rule_symbol-named.result c.loop-at.symbols c.loop-at.invariant (omega arith) (omega arith) c.rule_symbol-named.ensures c.if-named-count.false
-
-pub returns-then-has_rule : goal.returns-then-has_rule
-returns-then-has_rule g c =
+pub returns : goal.returns
+returns g c =
     let M = g.G.Grammar.meaning c.args.g.now in
+    let w : Word = word_of (M.rule c.args.symbol c.args.letter) in
     let size = c.rule_len-len.ensures in
-    let n = c.rule_len-len.result in
-    let end : c.loop-at.at ≡ n = omega arith in
-    let all = copied_all c.args.count M c.args.symbol c.args.letter n c.loop-at.symbols (rw end at c.loop-at.invariant) (sym size) (omega arith) in
-    (ap {B = Option Word} Some all.1 ∙ sym (word_of_there c.args.count M c.args.symbol c.args.letter (search rules)), all.0)
+    let from = c.from_fn-symbols.ensures.items in
+    let same : take c.rule_len-len.result c.from_fn-symbols.result ≡ w =
+    copied c.rule_len-len.result c.from_fn-symbols.result w from.long size (omega arith)
+    (λ i d h. from_fn_each _ _ 4 (λ i y. y ≡ get_or w i 255) (λ i y q l k. search rules) c.from_fn-symbols.result 0 4 (omega arith) from.each i d (omega arith) h) in
+    let told : IsTrue c.all.result ↔ All (λ B. B < c.args.count) c.as_slice.result.now = search rules in
+    let all : All (λ B. B < c.args.count) c.as_slice.result.now = told.0 c.if-not-all.false in (
+      ap (option_map held) c.then_some.ensures ∙ there c.args.count M c.args.symbol c.args.letter c.as_slice.result.now (c.as_slice.ensures ∙ same) (omega arith) c.has_rule.result _ c.has_rule.ensures (sym c.as_slice.ensures),
+      fine c.args.count M c.args.symbol c.args.letter c.as_slice.result.now (c.as_slice.ensures ∙ same) (omega arith) all,
+    )
