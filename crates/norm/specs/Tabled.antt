@@ -1,7 +1,6 @@
 -- The words of rules as a table holds them.
 --
 -- held w           the word that is held
--- index A a        where a table has what belongs to the symbol A and the letter a
 -- stored n ws A a  the word at A and a, in a table ws for n symbols
 --
 -- Assumes nothing.
@@ -9,14 +8,12 @@ use Rattle.std.specs.Prelude.{ℕ, ◌+◌, ◌-◌, ◌*◌, cond, ◌&&◌, Li
 use Rattle.std.specs.Option.{option_map}
 use Rattle.grammar.specs.Meaning.{Word}
 use Rattle.grammar.specs.Listed.{letter}
+use Rattle.grammar.specs.Places.{index}
 use Rattle.norm.specs.Words.{Words}
 use Rattle.norm.specs.declared.short_word.ShortWord.{ShortWord}
 
 abbrev pub held : ShortWord → Word
 held w = take w.len w.symbols
-
-abbrev pub index : ℕ → ℕ → ℕ
-index A a = 26 * A + (a - 65)
 
 abbrev pub stored : ℕ → List (Option ShortWord) → Words
 stored n ws A a = cond (nat_lt A n && letter a) (option_map held (slice_index_or ws (index A a) None)) None

@@ -1,12 +1,12 @@
 // Reads from the table of rule words.
 ghost use Rattle.std.specs.Prelude.{◌≡◌, ◌≤◌, slice_index_or};
 ghost use Rattle.std.specs.Option.{option_map};
-ghost use Rattle.grammar.specs.Listed.{letter as lettered};
-ghost use Rattle.norm.specs.Tabled.{held, index};
+ghost use Rattle.norm.specs.Tabled.{held};
 ghost use Rattle.norm.specs.Ruled.{rules_of};
 
 use crate::rule_words::RuleWords;
 use crate::short_word::ShortWord;
+use grammar::index_of;
 
 impl ShortWord {
     // Its symbols.
@@ -24,26 +24,12 @@ impl ShortWord {
     }
 }
 
-// Whether a byte is a letter, A to Z.
-pub fn is_letter(byte: u8) -> bool
-    ensures { result ≡ lettered byte }
-{
-    b'A' <= byte && byte <= b'Z'
-}
-
-// Where a table has what belongs to the symbol and the letter.
-pub fn index_of(symbol: u8, letter: u8) -> usize
-    ensures { result ≡ index symbol letter }
-{
-    26 * symbol as usize + letter.saturating_sub(65) as usize
-}
-
 impl RuleWords {
     // The word of the rule for the symbol and the letter, if there is one.
     pub fn word(&self, symbol: u8, letter: u8) -> Option<ShortWord>
         ensures { option_map held result ≡ rules_of self.now symbol letter }
     {
-        if symbol >= self.count || !is_letter(letter) {
+        if symbol >= self.count || !letter.is_ascii_uppercase() {
             return None;
         }
         self.words.get(index_of(symbol, letter)).copied().flatten()

@@ -3,14 +3,13 @@ ghost use Rattle.norm.specs.Words.{body};
 ghost use Rattle.norm.specs.Tabled.{stored};
 
 use crate::short_word::ShortWord;
+use grammar::PLACES;
 
-// The most symbols of a grammar, and the places of a table with one for each symbol and letter.
+// The most symbols of a grammar.
 pub const MAX_SYMBOLS: u8 = 32;
 
-pub const PLACES: usize = 832;
-
-// The words of a grammar's rules, without the tallies: that of the symbol A at the letter a stands
-// at 26 A + (a - 65). Words name only symbols below the count.
+// The words of a grammar's rules, without the tallies, each at the place of its symbol and its letter.
+// Words name only symbols below the count.
 #[derive(Drop)]
 pub struct RuleWords {
     pub count: u8,

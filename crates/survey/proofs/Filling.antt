@@ -10,7 +10,8 @@ use Rattle.tally.specs.Group.{Group}
 use Rattle.grammar.specs.Meaning.{Weighted, Meaning, WellFormed, Letter, Below, word_of}
 use Rattle.grammar.specs.Listed.{letter}
 use Rattle.norm.specs.Words.{words_of, body}
-use Rattle.norm.specs.Tabled.{held, index, stored}
+use Rattle.grammar.specs.Places.{index}
+use Rattle.norm.specs.Tabled.{held, stored}
 use Rattle.norm.specs.declared.short_word.ShortWord.{ShortWord}
 use Rattle.norm.proofs.Weights.{each_at}
 use Rattle.survey.specs.Refusals.{Sized, Fine, BadRule, Sooner, Refused, bad_rule}

@@ -11,7 +11,7 @@ use Rattle.tally.specs.Group.{Group}
 use Rattle.grammar.specs.Meaning.{Word, Weighted, Meaning, Letter, tally_of}
 use Rattle.norm.specs.Words.{words_of}
 use Rattle.norm.specs.Norms.{First, Normed, norms}
-use Rattle.norm.specs.Tabled.{index}
+use Rattle.grammar.specs.Places.{index}
 use Rattle.norm.specs.Certified.{Certified, spelled}
 use Rattle.norm.specs.Laws.{NormLaws}
 use Rattle.norm.proofs.Lawful.{norm_laws}

@@ -3,7 +3,7 @@ use Rattle.std.proofs.Common.{◌≡◌, ℕ, zero, suc, ◌<◌, true, List, []
 use Rattle.std.specs.List.{slice_get}
 use Rattle.std.specs.Option.{option_map}
 use Rattle.grammar.specs.Meaning.{Word, word_of, tally_of}
-use Rattle.norm.specs.Tabled.{index}
+use Rattle.grammar.specs.Places.{index}
 use Rattle.norm.specs.Words.{words_of}
 use Rattle.survey.specs.Surveyed.{weigh, words_in, surveyed}
 use Rattle.survey.specs.WellSurveyed.{stored_tested}

@@ -13,7 +13,7 @@ use Rattle.std.specs.List.{slice_get}
 use Rattle.grammar.specs.Meaning.{Word, Input, Weighted, Meaning}
 use Rattle.grammar.specs.WordStacks.{held}
 use Rattle.norm.specs.Words.{Words}
-use Rattle.norm.specs.Tabled.{index}
+use Rattle.grammar.specs.Places.{index}
 use Rattle.norm.specs.Skeletons.{rule_words, norm_at, first_at}
 use Rattle.survey.specs.declared.run.Run.{Run}
 use Rattle.survey.specs.declared.table.Survey.{Survey}

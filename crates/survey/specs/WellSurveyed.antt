@@ -7,7 +7,8 @@ use Rattle.std.specs.Option.{option_map}
 use Rattle.grammar.specs.Meaning.{Word, Each, Below, Letter, WellFormed, word_of}
 use Rattle.grammar.specs.Listed.{letter}
 use Rattle.norm.specs.Words.{body}
-use Rattle.norm.specs.Tabled.{held, index, stored}
+use Rattle.grammar.specs.Places.{index}
+use Rattle.norm.specs.Tabled.{held, stored}
 use Rattle.norm.specs.Norms.{Closed}
 use Rattle.norm.specs.declared.short_word.ShortWord.{ShortWord}
 use Rattle.survey.specs.Surveyed.{weigh, words_in, surveyed}

@@ -2,13 +2,14 @@
 ghost use Rattle.std.specs.Prelude.{◌≡◌, ◌<◌};
 ghost use Rattle.std.specs.Option.{option_map};
 ghost use Rattle.std.specs.List.{slice_get};
-ghost use Rattle.norm.specs.Tabled.{held, index};
+ghost use Rattle.grammar.specs.Places.{index};
+ghost use Rattle.norm.specs.Tabled.{held};
 ghost use Rattle.survey.specs.Surveyed.{words_in, surveyed};
 ghost use Rattle.survey.specs.WellSurveyed.{surveyed_wellformed};
 
 use crate::table::Survey;
-use grammar::Grammar;
-use norm::{ShortWord, index_of};
+use grammar::{Grammar, index_of};
+use norm::ShortWord;
 use tally::Tally;
 
 impl<T: Tally> Survey<T> {

@@ -1,6 +1,7 @@
 ghost use Rattle.std.specs.Prelude.{◌≡◌, length};
 
-use norm::{PLACES, Skeleton};
+use grammar::PLACES;
+use norm::Skeleton;
 
 // An accepted grammar, taken up whole: the words of its rules with norms and first letters, and the
 // tallies of its rules, each at its rule's place. They stand apart, as no ghost field could speak of

@@ -3,13 +3,14 @@ ghost use Rattle.std.specs.Prelude.{◌≡◌, ℕ, ◌<◌, length, Ok, Err, sl
 ghost use Rattle.std.specs.Option.{option_map};
 ghost use Rattle.grammar.specs.Meaning.{Letter, tally_of};
 ghost use Rattle.norm.specs.Words.{words_of};
-ghost use Rattle.norm.specs.Tabled.{held, index};
+ghost use Rattle.grammar.specs.Places.{index};
+ghost use Rattle.norm.specs.Tabled.{held};
 ghost use Rattle.survey.specs.Refusals.{Fine, BadRule, Refused};
 ghost use Rattle.survey.specs.Laws.{TakenUp};
 
 use crate::fault::GrammarFault;
-use grammar::Grammar;
-use norm::{MAX_RULE, MAX_SYMBOLS, PLACES, RuleWords, ShortWord, index_of};
+use grammar::{Grammar, PLACES, index_of};
+use norm::{MAX_RULE, MAX_SYMBOLS, RuleWords, ShortWord};
 use tally::Tally;
 
 // The word of the rule for the symbol and the letter, if there is a rule; or what is wrong with it.
