@@ -4,16 +4,17 @@
 -- wrote_none       no bytes
 -- after o at xs    a buffer after a write at a place with room: its length, and a write behind
 -- wrote_then       a write, and one behind it
--- wrote_more       the items of a list, and one more
--- wrote_item       the items up to a place, seen through g, and the one there
+-- puts_none, puts_as, puts_then   the same of a writer
+-- puts_item        the items up to a place, and the one there
 -- no_room, room    bytes that were counted by a write into nothing, which fit a buffer or not
 --
 -- Assumes nothing.
-use Rattle.std.proofs.Common.{◌≡◌, ℕ, ◌+◌, ◌^◌, ◌<◌, ◌≤◌, cond, List, [], ◌∷◌, ◌++◌, map, length, get_or, take, drop, Some, None, Option, sym, ap, ◌∙◌, subst, ap₂, append_assoc, append-nil, add-zero, arith, length-append, length-drop}
+use Rattle.std.proofs.Common.{◌≡◌, ℕ, ◌+◌, ◌^◌, ◌<◌, ◌≤◌, cond, List, [], ◌∷◌, ◌++◌, length, get_or, take, drop, Some, None, Option, sym, refl, ap, ◌∙◌, subst, ap₂, append_assoc, append-nil, add-zero, arith, length-append, length-drop}
 use borrow.Author.Tests.{le-true, lt-false}
-use Rattle.std.proofs.lemmas.List.{length-take-le, take-append-drop, take_at, drop_at, drop-drop, map_more}
+use Rattle.std.proofs.lemmas.List.{length-take-le, take-append-drop, take_at, take_more, drop_at, drop-drop}
 use Rattle.layout.specs.Contents.{joined}
-use Rattle.format.specs.Lent.{Wrote, filled_len, filled}
+use Rattle.format.specs.Lent.{Wrote, Puts, filled_len, filled}
+use Rattle.format.specs.declared.encode.Writer.{Writer}
 use Rattle.layout.proofs.Ordered.{joined_push}
 
 pub wrote_as : {o p bs cs : List ℕ} {at next : ℕ} → bs ≡ cs → Wrote o at bs next p → Wrote o at cs next p
@@ -60,13 +61,20 @@ wrote_then {o} {p} {q} {xs} {ys} {at} {next} {last} h w v =
           v.bytes more ∙ ap₂ (λ (r : List ℕ) n. after r n ys) is here ∙ after_after o at xs room ys;
     }
 
-pub wrote_more : {X : Type 0} (f : X → List ℕ) {o p q : List ℕ} {at next last : ℕ} (xs : List X) (x : X) →
-    length o < 2 ^ 64 → Wrote o at (joined f xs) next p → Wrote p next (f x) last q → Wrote o at (joined f (xs ++ x ∷ [])) last q
-wrote_more f xs x h w v = wrote_as (sym (joined_push f xs x)) (wrote_then h w v)
+pub puts_none : (w : Writer) → w.at < 2 ^ 64 → Puts w [] w
+puts_none w h = record { same_buffer = refl; wrote = wrote_none w.out.now w.at h }
 
-pub wrote_item : {X Y : Type 0} (f : Y → List ℕ) (g : X → Y) (xs : List X) (i : ℕ) (d : X) {o p q : List ℕ} {at next last : ℕ} →
-    i < length xs → length o < 2 ^ 64 → Wrote o at (joined f (map g (take i xs))) next p → Wrote p next (f (g (get_or xs i d))) last q → Wrote o at (joined f (map g (take (i + 1) xs))) last q
-wrote_item f g xs i d l h w v = wrote_as (ap (joined f) (sym (map_more g xs i d l))) (wrote_more f (map g (take i xs)) (g (get_or xs i d)) h w v)
+pub puts_as : {w v : Writer} {bs cs : List ℕ} → bs ≡ cs → Puts w bs v → Puts w cs v
+puts_as {w} {v} e p = subst (λ (l : List ℕ). Puts w l v) e p
+
+pub puts_then : {w v u : Writer} {xs ys : List ℕ} → length w.out.now < 2 ^ 64 → Puts w xs v → Puts v ys u → Puts w (xs ++ ys) u
+puts_then h p q = record { same_buffer = q.same_buffer ∙ p.same_buffer; wrote = wrote_then h p.wrote q.wrote }
+
+pub puts_item : {X : Type 0} (f : X → List ℕ) (xs : List X) (i : ℕ) (x : X) {w v u : Writer} → i < length xs → x ≡ get_or xs i x → length w.out.now < 2 ^ 64 →
+    Puts w (joined f (take i xs)) v → Puts v (f x) u → Puts w (joined f (take (i + 1) xs)) u
+puts_item f xs i x l is h p q =
+    let more = take_more xs i x l ∙ ap (λ y. take i xs ++ y ∷ []) (sym is) in
+    puts_as (sym (joined_push f (take i xs) x) ∙ ap (joined f) (sym more)) (puts_then h p q)
 
 module _ (bs o : List ℕ) {n : ℕ} {q : List ℕ} (needed : Wrote [] 0 bs n q) where
   pub no_room : length o < n → (◌≡◌ {A = Option ℕ} None (filled_len bs o)) × (o ≡ filled bs o)

@@ -1,10 +1,11 @@
 -- The kinds of a tally, and its numbers in a file.
 --
 -- Lossless ks numbers made   a tally of the kinds ks has one number for each, below 2 ^ 32; of two kinds or fewer, numbers and tally make each other
--- K_kinds                    the kinds of the make K: untallied [], foot [1], last [2], odd ones [3], a pair its left's and then its right's
+-- K_kinds                    the kinds of the make K: untallied none, a make with only one number its kind, a pair its left's and then its right's
 -- K_numbers x                the numbers of the tally x, in the order of the kinds
 -- K_made a b                 the tally of the numbers a and b; those without a kind are ignored
 -- K_lossless                 the make K is lossless
+-- K_numbered                 how a tally of the make K, with only one number, and that number make each other
 --
 -- Assumes nothing.
 use Rattle.std.specs.Prelude.{◌≡◌, ℕ, ◌+◌, ◌%◌, ◌^◌, ◌<◌, ◌≤◌, List, [], ◌∷◌, ◌++◌, length, take, slice_index, refl}
@@ -16,6 +17,8 @@ use Rattle.tally.specs.declared.values.LastMm.{LastMm}
 use Rattle.tally.specs.declared.values.OddOnes.{OddOnes}
 use Rattle.tally.specs.declared.values.Pair.{Pair}
 use Rattle.layout.specs.Contents.{All}
+use Rattle.layout.specs.Kinds.{byte_of}
+use Rattle.layout.specs.declared.kind.Kind.{Kind}
 
 pub record Lossless {T : Type 0} (ks : List ℕ) (numbers : T → List ℕ) (made : ℕ → ℕ → T) : Type 0 where
   pub size : (x : T) → length (numbers x) ≡ length ks
@@ -44,7 +47,11 @@ untallied_lossless = record {
 pub residue_same : (n : ℕ) → n < 2 ^ 32 → n % 2 ^ 32 ≡ n
 residue_same n h = omega arith
 
--- one construction for the makes with one number
+-- the one kind of a make with only one number
+abbrev pub only_kinds : Kind → List ℕ
+only_kinds kind = byte_of kind ∷ []
+
+-- one construction for the makes with only one number
 module _ {T : Type 0} (R : Numbered T) where
   abbrev pub only_numbers : T → List ℕ
   only_numbers x = R.number x ∷ []
@@ -52,8 +59,8 @@ module _ {T : Type 0} (R : Numbered T) where
   abbrev pub only_made : ℕ → ℕ → T
   only_made a b = R.of (a % 2 ^ 32) (omega arith)
 
-  pub only_lossless : (k : ℕ) → Lossless (k ∷ []) only_numbers only_made
-  only_lossless k = record {
+  pub only_lossless : (kind : Kind) → Lossless (only_kinds kind) only_numbers only_made
+  only_lossless kind = record {
     size = λ _. refl;
     small = λ x. (R.fits x, tt);
     back = λ _ x. R.same _ _ (R.reads _ _ ∙ residue_same (R.number x) (R.fits x));
@@ -63,47 +70,11 @@ module _ {T : Type 0} (R : Numbered T) where
 abbrev pub foot_numbered : Numbered FootMm
 foot_numbered = record { number = λ x. x.mm; of = foot_of; fits = λ x. x.fits; reads = λ n h. refl; same = foot_same }
 
-abbrev pub foot_kinds : List ℕ
-foot_kinds = 1 ∷ []
-
-abbrev pub foot_numbers : FootMm → List ℕ
-foot_numbers = only_numbers foot_numbered
-
-abbrev pub foot_made : ℕ → ℕ → FootMm
-foot_made = only_made foot_numbered
-
-pub foot_lossless : Lossless foot_kinds foot_numbers foot_made
-foot_lossless = only_lossless foot_numbered 1
-
 abbrev pub last_numbered : Numbered LastMm
 last_numbered = record { number = λ x. x.mm; of = last_of; fits = λ x. x.fits; reads = λ n h. refl; same = last_same }
 
-abbrev pub last_kinds : List ℕ
-last_kinds = 2 ∷ []
-
-abbrev pub last_numbers : LastMm → List ℕ
-last_numbers = only_numbers last_numbered
-
-abbrev pub last_made : ℕ → ℕ → LastMm
-last_made = only_made last_numbered
-
-pub last_lossless : Lossless last_kinds last_numbers last_made
-last_lossless = only_lossless last_numbered 2
-
 abbrev pub odd_numbered : Numbered OddOnes
 odd_numbered = record { number = λ x. x.bits; of = odd_of; fits = λ x. x.fits; reads = λ n h. refl; same = odd_same }
-
-abbrev pub odd_kinds : List ℕ
-odd_kinds = 3 ∷ []
-
-abbrev pub odd_numbers : OddOnes → List ℕ
-odd_numbers = only_numbers odd_numbered
-
-abbrev pub odd_made : ℕ → ℕ → OddOnes
-odd_made = only_made odd_numbered
-
-pub odd_lossless : Lossless odd_kinds odd_numbers odd_made
-odd_lossless = only_lossless odd_numbered 3
 
 abbrev pub pair_kinds : List ℕ → List ℕ → List ℕ
 pair_kinds ks ls = ks ++ ls

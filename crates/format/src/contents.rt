@@ -1,14 +1,13 @@
 // What a file holds, as it is handed to the encoder.
 use crate::row::Row;
 
-// A rule: room for two numbers, as a file has at most two kinds, and for four symbols, of which `length` count.
+// A rule, lent: its numbers, one for each kind of the file, and its word.
 #[derive(Clone, Copy)]
-pub struct RuleEntry {
+pub struct RuleEntry<'a> {
     pub symbol: u8,
     pub letter: u8,
-    pub numbers: [u32; 2],
-    pub length: u8,
-    pub symbols: [u8; 4],
+    pub numbers: &'a [u32],
+    pub word: &'a [u8],
 }
 
 // The contents of a file, lent.
@@ -16,6 +15,6 @@ pub struct RuleEntry {
 pub struct FileContents<'a> {
     pub names: &'a [u8],
     pub kinds: &'a [u8],
-    pub rules: &'a [RuleEntry],
+    pub rules: &'a [RuleEntry<'a>],
     pub rows: &'a [Row<'a>],
 }

@@ -1,100 +1,111 @@
 // Writes the bytes of a file into a lent buffer.
-ghost use Rattle.std.specs.Prelude.{◌≡◌, map, take};
+ghost use Rattle.std.specs.Prelude.{◌≡◌, ℕ, List};
 ghost use Rattle.layout.specs.Contents.{Legal, encode, joined, four};
 ghost use Rattle.format.specs.Views.{row_of};
-ghost use Rattle.format.specs.Lent.{Wrote, rule_of, contents_of, counted, low_rule, low_row, low_encode, filled_len, filled, Canonical};
+ghost use Rattle.format.specs.Lent.{Puts, Wrote, rule_of, contents_of, counted, low_rule, low_row, low_encode, filled_len, filled, Canonical};
 
 use crate::contents::{FileContents, RuleEntry};
 use crate::row::Row;
 
-// Writes the bytes where there is room, and says where the next ones go.
-fn put(out: &mut [u8], at: usize, bytes: &[u8]) -> usize
-    ensures { Wrote out.old at bytes.now result out.new }
-{
-    let count = bytes.len();
-    if at <= out.len() && count <= out.len() - at {
-        out[at..at + count].copy_from_slice(bytes);
+// A lent buffer, and the place in it where the next bytes go; behind its end bytes are only counted.
+#[derive(Drop)]
+struct Writer<'a> {
+    out: &'a mut [u8],
+    at: usize,
+}
+
+// What has bytes in a file.
+trait Encode {
+    // Its bytes.
+    ghost bytes: { Self → List ℕ };
+
+    fn put(&self, to: &mut Writer<'_>)
+        ensures { Puts to.old (bytes self.now) to.new };
+}
+
+impl Writer<'_> {
+    // Writes the bytes where there is room.
+    fn put(&mut self, bytes: &[u8])
+        ensures { Puts self.old bytes.now self.new }
+    {
+        let at = self.at;
+        let count = bytes.len();
+        if at <= self.out.len() && count <= self.out.len() - at {
+            self.out[at..at + count].copy_from_slice(bytes);
+        }
+        self.at = at.saturating_add(count);
     }
-    at.saturating_add(count)
-}
 
-// Bytes behind the low byte of their count.
-fn put_counted(out: &mut [u8], at: usize, bytes: &[u8]) -> usize
-    ensures { Wrote out.old at (counted bytes.now) result out.new }
-{
-    let at = put(out, at, &[(bytes.len() % 256) as u8]);
-    put(out, at, bytes)
-}
+    // Bytes behind the low byte of their count.
+    fn put_counted(&mut self, bytes: &[u8])
+        ensures { Puts self.old (counted bytes.now) self.new }
+    {
+        self.put(&[(bytes.len() % 256) as u8]);
+        self.put(bytes);
+    }
 
-// The first `count` items, or all.
-fn front<T>(items: &[T], count: usize) -> &[T]
-    ensures { result.now ≡ take count items.now }
-{
-    if count < items.len() {
-        items.split_at(count).0
-    } else {
-        items
+    // Items, one behind the other.
+    fn put_all<T: Encode>(&mut self, items: &[T])
+        ensures { Puts self.old (joined T.Encode.bytes items.now) self.new }
+    {
+        for item in items {
+            item.put(self);
+        }
     }
 }
 
-// Numbers, four bytes each, high first.
-fn put_numbers(out: &mut [u8], mut at: usize, numbers: &[u32]) -> usize
-    ensures { Wrote out.old at (joined four numbers.now) result out.new }
-{
-    for number in numbers {
-        at = put(out, at, &number.to_be_bytes());
+// Four bytes, high first.
+impl Encode for u32 {
+    ghost bytes = { four };
+
+    fn put(&self, to: &mut Writer<'_>) {
+        to.put(&self.to_be_bytes());
     }
-    at
 }
 
-// A rule of a file with `kinds` kinds.
-fn put_rule(out: &mut [u8], at: usize, kinds: usize, rule: &RuleEntry) -> usize
-    ensures { Wrote out.old at (low_rule (rule_of kinds rule.now)) result out.new }
-{
-    let at = put(out, at, &[rule.symbol, rule.letter]);
-    let at = put_numbers(out, at, front(&rule.numbers, kinds));
-    put_counted(out, at, front(&rule.symbols, rule.length as usize))
-}
+// The symbol and the letter, the numbers, and the word behind its length.
+impl Encode for RuleEntry<'_> {
+    ghost bytes = { λ rule. low_rule (rule_of rule) };
 
-// The rules of a file with `kinds` kinds.
-fn put_rules(out: &mut [u8], mut at: usize, kinds: usize, rules: &[RuleEntry]) -> usize
-    ensures { Wrote out.old at (joined low_rule (map (rule_of kinds) rules.now)) result out.new }
-{
-    for rule in rules {
-        at = put_rule(out, at, kinds, rule);
+    fn put(&self, to: &mut Writer<'_>) {
+        to.put(&[self.symbol, self.letter]);
+        to.put_all(self.numbers);
+        to.put_counted(self.word);
     }
-    at
 }
 
-// A row: its symbol, and its word behind its length.
-fn put_row(out: &mut [u8], at: usize, row: &Row<'_>) -> usize
-    ensures { Wrote out.old at (low_row (row_of row.now)) result out.new }
-{
-    let at = put(out, at, &[row.symbol]);
-    put_counted(out, at, row.word)
-}
+// The symbol, and the word behind its length.
+impl Encode for Row<'_> {
+    ghost bytes = { λ row. low_row (row_of row) };
 
-// Rows, one behind the other.
-fn put_rows(out: &mut [u8], mut at: usize, rows: &[Row<'_>]) -> usize
-    ensures { Wrote out.old at (joined low_row (map row_of rows.now)) result out.new }
-{
-    for row in rows {
-        at = put_row(out, at, row);
+    fn put(&self, to: &mut Writer<'_>) {
+        to.put(&[self.symbol]);
+        to.put_counted(self.word);
     }
-    at
 }
 
 // The four sections, each behind its count.
+impl Encode for FileContents<'_> {
+    ghost bytes = { λ contents. low_encode (contents_of contents) };
+
+    fn put(&self, to: &mut Writer<'_>) {
+        to.put_counted(self.names);
+        to.put_counted(self.kinds);
+        let count = (self.rules.len() % 65_536) as u16;
+        to.put(&count.to_be_bytes());
+        to.put_all(self.rules);
+        to.put(&[(self.rows.len() % 256) as u8]);
+        to.put_all(self.rows);
+    }
+}
+
+// Writes the contents from the start of the buffer on, and answers how many bytes they have.
 fn put_contents(out: &mut [u8], contents: &FileContents<'_>) -> usize
     ensures { Wrote out.old 0 (low_encode (contents_of contents.now)) result out.new }
 {
-    let at = put_counted(out, 0, contents.names);
-    let at = put_counted(out, at, contents.kinds);
-    let count = (contents.rules.len() % 65_536) as u16;
-    let at = put(out, at, &count.to_be_bytes());
-    let at = put_rules(out, at, contents.kinds.len(), contents.rules);
-    let at = put(out, at, &[(contents.rows.len() % 256) as u8]);
-    put_rows(out, at, contents.rows)
+    let mut to = Writer { out, at: 0 };
+    contents.put(&mut to);
+    to.at
 }
 
 // Writes the bytes of the contents at the start of the buffer and answers how many they are.

@@ -1,12 +1,15 @@
 // Tallies in files: the kinds of a tally and its numbers, as a file holds them.
-ghost use Rattle.std.specs.Prelude.{◌≡◌, ℕ, ◌<◌, ◌≤◌, min, List, length, slice_index};
+ghost use Rattle.std.specs.Prelude.{◌≡◌, ℕ, ◌<◌, ◌≤◌, min, List, length, slice_get};
 ghost use Rattle.format.specs.Kinds.{Lossless, untallied_kinds, untallied_numbers, untallied_made, untallied_lossless};
-ghost use Rattle.format.specs.Kinds.{foot_kinds, foot_numbers, foot_made, foot_lossless};
-ghost use Rattle.format.specs.Kinds.{last_kinds, last_numbers, last_made, last_lossless};
-ghost use Rattle.format.specs.Kinds.{odd_kinds, odd_numbers, odd_made, odd_lossless};
+ghost use Rattle.format.specs.Kinds.{foot_numbered, last_numbered, odd_numbered};
+ghost use Rattle.format.specs.Kinds.{only_kinds, only_numbers, only_made, only_lossless};
 ghost use Rattle.format.specs.Kinds.{pair_kinds, pair_numbers, pair_made, pair_lossless};
 ghost use Rattle.layout.specs.Reading.{same_kinds};
+ghost use Rattle.layout.specs.declared.kind.Kind.{Kind};
+ghost use Rattle.layout.specs.declared.kind.Kind.TheVariants.{Foot, Last, OddOnes};
+ghost use Rattle.tally.specs.Makes.{Numbered};
 
+use layout::Kind;
 use tally::{FootMm, LastMm, OddOnes, Pair, Tally, Untallied};
 
 // A tally that a file can hold, as one number for each of its kinds, or refuse for its kinds.
@@ -27,13 +30,13 @@ pub trait FileTally: Tally {
     fn kind_count() -> u8
         ensures { result ≡ min 255 (length kinds) };
 
-    // The kind at a place below 255; 0 beyond the last.
-    fn kind(at: u8) -> u8
-        ensures { at < 255 → result ≡ slice_index kinds at };
+    // The kind at a place below 255, if there is one. A byte, as a tally may have kinds that no file holds.
+    fn kind(at: u8) -> Option<u8>
+        ensures { at < 255 → result ≡ slice_get kinds at };
 
-    // The number at a place below 255; 0 beyond the last.
-    fn number(&self, at: u8) -> u32
-        ensures { at < 255 → result ≡ slice_index (numbers self.now) at };
+    // The number at a place below 255, if there is one.
+    fn number(&self, at: u8) -> Option<u32>
+        ensures { at < 255 → result ≡ slice_get (numbers self.now) at };
 
     // The tally of two numbers; those without a kind are ignored.
     fn of_numbers(first: u32, second: u32) -> Self
@@ -54,12 +57,12 @@ impl FileTally for Untallied {
         0
     }
 
-    fn kind(_at: u8) -> u8 {
-        0
+    fn kind(_at: u8) -> Option<u8> {
+        None
     }
 
-    fn number(&self, _at: u8) -> u32 {
-        0
+    fn number(&self, _at: u8) -> Option<u32> {
+        None
     }
 
     fn of_numbers(_first: u32, _second: u32) -> Untallied {
@@ -67,84 +70,97 @@ impl FileTally for Untallied {
     }
 }
 
-// Kind 1.
-impl FileTally for FootMm {
-    ghost kinds = { foot_kinds };
+// A tally that is one number below 2^32, and all of that number is of one kind.
+pub trait OneNumber: Tally {
+    // What the number counts.
+    const KIND: Kind;
 
-    ghost numbers = { foot_numbers };
+    ghost KIND: { Kind };
 
-    ghost made = { foot_made };
+    // A tally and its number make each other.
+    ghost numbered: { Numbered Self };
 
-    ghost lossless = { foot_lossless };
+    // The number of the tally.
+    fn value(&self) -> u32
+        ensures { result ≡ numbered.number self.now };
 
-    fn kind_count() -> u8 {
-        1
+    // The tally of a number.
+    fn of_value(value: u32) -> Self
+        ensures { numbered.number result ≡ value };
+}
+
+impl OneNumber for FootMm {
+    const KIND: Kind = Kind::Foot;
+
+    ghost KIND = { Foot };
+
+    ghost numbered = { foot_numbered };
+
+    fn value(&self) -> u32 {
+        self.mm
     }
 
-    fn kind(at: u8) -> u8 {
-        if at == 0 { 1 } else { 0 }
-    }
-
-    fn number(&self, at: u8) -> u32 {
-        if at == 0 { self.mm } else { 0 }
-    }
-
-    fn of_numbers(first: u32, _second: u32) -> FootMm {
-        FootMm { mm: first }
+    fn of_value(value: u32) -> FootMm {
+        FootMm { mm: value }
     }
 }
 
-// Kind 2.
-impl FileTally for LastMm {
-    ghost kinds = { last_kinds };
+impl OneNumber for LastMm {
+    const KIND: Kind = Kind::Last;
 
-    ghost numbers = { last_numbers };
+    ghost KIND = { Last };
 
-    ghost made = { last_made };
+    ghost numbered = { last_numbered };
 
-    ghost lossless = { last_lossless };
-
-    fn kind_count() -> u8 {
-        1
+    fn value(&self) -> u32 {
+        self.mm
     }
 
-    fn kind(at: u8) -> u8 {
-        if at == 0 { 2 } else { 0 }
-    }
-
-    fn number(&self, at: u8) -> u32 {
-        if at == 0 { self.mm } else { 0 }
-    }
-
-    fn of_numbers(first: u32, _second: u32) -> LastMm {
-        LastMm { mm: first }
+    fn of_value(value: u32) -> LastMm {
+        LastMm { mm: value }
     }
 }
 
-// Kind 3.
-impl FileTally for OddOnes {
-    ghost kinds = { odd_kinds };
+impl OneNumber for OddOnes {
+    const KIND: Kind = Kind::OddOnes;
 
-    ghost numbers = { odd_numbers };
+    ghost KIND = { OddOnes };
 
-    ghost made = { odd_made };
+    ghost numbered = { odd_numbered };
 
-    ghost lossless = { odd_lossless };
+    fn value(&self) -> u32 {
+        self.bits
+    }
+
+    fn of_value(value: u32) -> OddOnes {
+        OddOnes { bits: value }
+    }
+}
+
+// One kind and one number.
+impl<T: OneNumber> FileTally for T {
+    ghost kinds = { only_kinds T.OneNumber.KIND };
+
+    ghost numbers = { only_numbers T.OneNumber.numbered };
+
+    ghost made = { only_made T.OneNumber.numbered };
+
+    ghost lossless = { only_lossless T.OneNumber.numbered T.OneNumber.KIND };
 
     fn kind_count() -> u8 {
         1
     }
 
-    fn kind(at: u8) -> u8 {
-        if at == 0 { 3 } else { 0 }
+    fn kind(at: u8) -> Option<u8> {
+        (at == 0).then_some(u8::from(T::KIND))
     }
 
-    fn number(&self, at: u8) -> u32 {
-        if at == 0 { self.bits } else { 0 }
+    fn number(&self, at: u8) -> Option<u32> {
+        (at == 0).then_some(self.value())
     }
 
-    fn of_numbers(first: u32, _second: u32) -> OddOnes {
-        OddOnes { bits: first }
+    fn of_numbers(first: u32, _second: u32) -> T {
+        T::of_value(first)
     }
 }
 
@@ -162,7 +178,7 @@ impl<X: FileTally, Y: FileTally> FileTally for Pair<X, Y> {
         X::kind_count().saturating_add(Y::kind_count())
     }
 
-    fn kind(at: u8) -> u8 {
+    fn kind(at: u8) -> Option<u8> {
         let count = X::kind_count();
         if at < count {
             X::kind(at)
@@ -171,7 +187,7 @@ impl<X: FileTally, Y: FileTally> FileTally for Pair<X, Y> {
         }
     }
 
-    fn number(&self, at: u8) -> u32 {
+    fn number(&self, at: u8) -> Option<u32> {
         let count = X::kind_count();
         if at < count {
             self.0.number(at)
@@ -196,9 +212,5 @@ pub(crate) fn has_kinds<T: FileTally>(kinds: &[u8]) -> bool
     if T::kind_count() as usize != kinds.len() {
         return false;
     }
-    match kinds {
-        [] => true,
-        [one] => T::kind(0) == *one,
-        [one, two, ..] => T::kind(0) == *one && T::kind(1) == *two,
-    }
+    T::kind(0) == kinds.first().copied() && T::kind(1) == kinds.get(1).copied()
 }

@@ -14,6 +14,6 @@ mod rules;
 pub use check::check_file;
 pub use contents::{FileContents, RuleEntry};
 pub use encode::encode_into;
-pub use file_tally::FileTally;
+pub use file_tally::{FileTally, OneNumber};
 pub use row::{Checked, Row, Section};
 pub use rows::rows_section;

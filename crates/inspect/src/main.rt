@@ -8,13 +8,13 @@ mod parts;
 mod tests;
 
 use kinds::check_any;
-use layout::Fault;
+use layout::{Fault, FaultCode};
 use parts::show;
 use std::io::Read;
 
 // A refusal as one line: the fault's number and its two numbers.
 fn refuse(rt: &HostRuntime, fault: Fault) -> anyhow::Result<()> {
-    let code = fault.code();
+    let code = FaultCode::from(fault);
     let number = code.number;
     let first = code.first;
     let second = code.second;

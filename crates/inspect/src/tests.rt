@@ -1,10 +1,11 @@
 use crate::kinds::check_any;
+use layout::FaultCode;
 
 // The number and the first number of a refusal, (0, 0) where there is none.
 fn refusal(bytes: &[u8]) -> (u8, usize) {
     match check_any(bytes) {
         Ok(_) => (0, 0),
-        Err(fault) => (fault.code().number, fault.code().first),
+        Err(fault) => (FaultCode::from(fault).number, FaultCode::from(fault).first),
     }
 }
 

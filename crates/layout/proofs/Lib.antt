@@ -8,3 +8,4 @@ pub mod Whole
 pub mod Law
 pub mod Any
 pub mod Examples
+pub mod KindBytes

@@ -1,5 +1,11 @@
--- The number of a fault, its layer, and its two numbers; where one is named, the second is 0. Assumes nothing.
-use Rattle.std.specs.Prelude.{ℕ}
+-- How a fault of the file is told.
+--
+-- code_of f     its number, its layer, and its two numbers; where one is named, the second is 0
+-- code_text c   what is printed: the number and the two numbers, with single spaces
+--
+-- Assumes nothing.
+use Rattle.std.specs.Prelude.{ℕ, List, ◌∷◌, ◌++◌}
+use Rattle.std.specs.Fmt.{decimal}
 use Rattle.layout.specs.declared.fault.Fault.{Fault}
 use Rattle.layout.specs.declared.fault.Fault.TheVariants.{Short, Limit, Unallowed, Order, Symbol, Trailing, Kinds}
 use Rattle.layout.specs.declared.fault.FaultCode.{FaultCode}
@@ -16,3 +22,6 @@ code_of (Order n) = of_file 4 n
 code_of (Symbol n) = of_file 5 n
 code_of (Trailing n) = of_file 6 n
 code_of Kinds = of_file 7 0
+
+abbrev pub code_text : FaultCode → List ℕ
+code_text c = decimal c.number ++ 32 ∷ decimal c.first ++ 32 ∷ decimal c.second

@@ -1,5 +1,6 @@
 pub mod Contents
 pub mod Faults
+pub mod Kinds
 pub mod Reading
 pub mod Wrong
 pub mod Laws

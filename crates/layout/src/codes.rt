@@ -1,15 +1,16 @@
 // How a fault is told.
-ghost use Rattle.std.specs.Prelude.{◌≡◌};
-ghost use Rattle.layout.specs.Faults.{code_of};
+ghost use Rattle.std.specs.Prelude.{◌≡◌, Some};
+ghost use Rattle.layout.specs.Faults.{code_of, code_text};
 
 use crate::fault::{Fault, FaultCode, Layer};
+use std::fmt;
 
-impl Fault {
-    // The fault's number, its layer, and its two numbers.
-    pub fn code(self) -> FaultCode
-        ensures { result ≡ code_of self }
-    {
-        let (number, first) = match self {
+// The fault's number, its layer, and its two numbers.
+impl From<Fault> for FaultCode {
+    ghost from_gives = { λ fault code. code ≡ code_of fault };
+
+    fn from(fault: Fault) -> FaultCode {
+        let (number, first) = match fault {
             Fault::Short(bytes) => (1, bytes),
             Fault::Limit(place) => (2, place),
             Fault::Unallowed(place) => (3, place),
@@ -25,5 +26,14 @@ impl Fault {
             first,
             second: 0,
         }
+    }
+}
+
+// The number and the two numbers, with single spaces.
+impl fmt::Display for FaultCode {
+    ghost output = { λ code. Some (code_text code) };
+
+    fn fmt<W: fmt::Write>(&self, f: &mut fmt::Formatter<W>) -> fmt::Result {
+        write!(f, "{} {} {}", self.number, self.first, self.second)
     }
 }
