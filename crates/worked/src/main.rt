@@ -3,16 +3,19 @@
 #![tactic(auto)]
 
 mod outcome;
+mod query;
 mod raising;
 mod reading;
 mod runs;
 mod seven;
 
-use grammar::{Grammar, ListGrammar, MAX_INPUT, Twin};
+use grammar::{Grammar, ListGrammar, Twin};
 use outcome::Outcome;
-use reading::{Reading, next_line, read};
+use query::QueryError;
+use reading::{Lines, read};
 use runs::{outcome_in_second, outcome_of};
 use seven::seven_symbols;
+use std::io;
 use std::io::Read;
 use tally::FootMm;
 
@@ -25,74 +28,49 @@ fn shown(bytes: &[u8]) -> &str {
 }
 
 // Says what happened on a line.
-fn say(rt: &HostRuntime, place: &str, query: &str, outcome: Outcome) -> anyhow::Result<()> {
-    match outcome {
-        Outcome::Taken(mm) => println!(rt; "{place}: {query}: taken with {mm}")?,
-        Outcome::NotTaken => println!(rt; "{place}: {query}: not taken")?,
-        Outcome::TooLong(letters) => {
-            println!(rt;
-                "{place}: refused, an input of {letters} letters where {MAX_INPUT} are the most"
-            )?
-        }
-    }
-    Ok(())
-}
-
-// Says what is wrong with a line.
-fn say_mistake(rt: &HostRuntime, place: &str, query: &str, mistake: &str) -> anyhow::Result<()> {
-    println!(rt; "{place}: {query}: refused, {mistake}")?;
-    Ok(())
-}
-
-// Answers a line over a grammar.
-fn answer<G: Grammar<T = FootMm>>(
-    rt: &HostRuntime,
-    g: &G,
-    place: &str,
-    line: &[u8],
-) -> anyhow::Result<()> {
+fn say(rt: &impl Print, place: &str, line: &[u8], outcome: Outcome) -> io::Result<()> {
     let query = shown(line);
-    match read(rt.alloc(), line)? {
-        Reading::Query(word, input) => say(rt, place, query, outcome_of(g, &word, input)),
-        Reading::NoFields => say_mistake(rt, place, query, "not WORD INPUT with one space between"),
-        Reading::NoWord => say_mistake(rt, place, query, "a name that is none of b c d e f k q"),
+    match outcome {
+        Ok(Some(mm)) => println!(rt; "{place}: {query}: taken with {mm}"),
+        Ok(None) => println!(rt; "{place}: {query}: not taken"),
+        Err(too_long) => println!(rt; "{place}: refused, {too_long}"),
     }
 }
 
 // Answers every line of a text over a grammar.
 fn answer_all<G: Grammar<T = FootMm>>(
-    rt: &HostRuntime,
+    rt: &(impl Print + AllocGlobal),
     g: &G,
     place: &str,
     text: &[u8],
 ) -> anyhow::Result<()> {
-    let mut rest = text;
-    while !rest.is_empty() {
-        let (line, more) = next_line(rest);
-        answer(rt, g, place, line)?;
-        rest = more;
+    for line in Lines(text) {
+        match read(rt.alloc(), line) {
+            Ok(query) => say(rt, place, line, outcome_of(g, &query.word, query.input))?,
+            Err(error @ QueryError::OutOfMemory) => return Err(error.into()),
+            Err(mistake) => {
+                let query = shown(line);
+                println!(rt; "{place}: {query}: refused, {mistake}")?
+            }
+        }
     }
     Ok(())
 }
 
 // Answers the table over a twin, for words of its second grammar.
 fn answer_second(
-    rt: &HostRuntime,
+    rt: &(impl Print + AllocGlobal),
     twin: &Twin<ListGrammar<FootMm>, ListGrammar<FootMm>>,
 ) -> anyhow::Result<()> {
-    let mut rest = TABLE;
-    while !rest.is_empty() {
-        let (line, more) = next_line(rest);
-        if let Reading::Query(word, input) = read(rt.alloc(), line)? {
-            let outcome = outcome_in_second(rt.alloc(), twin, &word, input)?;
-            say(rt, "twin, second", shown(line), outcome)?;
-        }
-        rest = more;
+    for line in Lines(TABLE) {
+        let query = read(rt.alloc(), line)?;
+        let outcome = outcome_in_second(rt.alloc(), twin, &query.word, query.input)?;
+        say(rt, "twin, second", line, outcome)?;
     }
     Ok(())
 }
 
-fn run(rt: &HostRuntime) -> anyhow::Result<()> {
+fn run(rt: &(impl Print + Input + AllocGlobal)) -> anyhow::Result<()> {
     let heap = rt.alloc();
     let g = seven_symbols(heap)?;
     answer_all(rt, &g, "grammar", TABLE)?;
@@ -100,7 +78,7 @@ fn run(rt: &HostRuntime) -> anyhow::Result<()> {
     answer_all(rt, &twin, "twin, first", TABLE)?;
     answer_second(rt, &twin)?;
     let mut text = Vec::new(heap);
-    rt.stdin().read_to_end(&mut text)?;
+    rt.reader().read_to_end(&mut text)?;
     answer_all(rt, &g, "line", &text)
 }
 

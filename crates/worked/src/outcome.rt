@@ -1,10 +1,5 @@
 // What is said of a run.
-#[derive(Clone, Copy, Debug, PartialEq)]
-pub enum Outcome {
-    // The word takes the input, with this foot length in millimetres.
-    Taken(u32),
-    // It does not.
-    NotTaken,
-    // The input has this many letters, more than are run.
-    TooLong(usize),
-}
+use grammar::InputTooLong;
+
+// The foot length in millimetres with which a word takes an input, if it does.
+pub type Outcome = Result<Option<u32>, InputTooLong>;

@@ -9,9 +9,5 @@ use std::alloc::{AllocError, Global};
 pub fn raise_word(heap: Global, word: &[u8], by: u8) -> Result<Vec<u8>, AllocError>
     ensures { IfOk result (λ v. v.items ≡ raised by word.now) }
 {
-    let mut high = Vec::new(heap);
-    for symbol in word {
-        high.push(raise(*symbol, by))?;
-    }
-    Ok(high)
+    word.iter().map(|symbol| raise(*symbol, by)).collect(heap)
 }
