@@ -29,22 +29,13 @@ pub each_within : (norm : ℕ → ℕ) (v : ℕ) (w : Word) → norms norm w ≤
 each_within norm v [] h = tt
 each_within norm v (A ∷ w) h = (omega arith, each_within norm v w (omega arith))
 
--- with greater norms
-pub norms_more : (norm more : ℕ → ℕ) → ((B : ℕ) → norm B ≤ more B) → (w : Word) → norms norm w ≤ norms more w
-norms_more norm more h [] = omega arith
-norms_more norm more h (B ∷ w) = let l = h B in let k = norms_more norm more h w in omega arith
-
 -- what holds of each symbol holds at each place
 pub each_at : (P : ℕ → Type 0) (w : Word) (i d : ℕ) → i < length w → Each P w → P (get_or w i d)
 each_at P [] i d h e = absurd (omega arith)
 each_at P (A ∷ w) zero d h e = e.0
 each_at P (A ∷ w) (suc i) d h e = each_at P w i d (omega arith) e.1
 
--- one symbol more of a word
-pub each_more : (P : ℕ → Type 0) (w : Word) (i d : ℕ) → i < length w → Each P (take i w) → P (get_or w i d) → Each P (take (i + 1) w)
-each_more P w i d h e p = subst (Each P) (sym (take_more w i d h)) (each_append P (take i w) (get_or w i d ∷ []) e (p, tt))
-
--- the same, added up to a limit
+-- the norm of a word, added up symbol by symbol to a limit
 pub norms_fold : (norm : ℕ → ℕ) (top : ℕ) (w : Word) (k : ℕ) → k ≤ top → fold (λ s B. min (s + norm B) top) k w ≡ min (k + norms norm w) top
 norms_fold norm top [] k h = omega arith
 norms_fold norm top (B ∷ w) k h = norms_fold norm top w (min (k + norm B) top) (omega arith) ∙ omega arith

@@ -6,16 +6,8 @@ use Rattle.norm.specs.Words.{body}
 use Rattle.norm.specs.Skeletons.{rule_words, letter_at}
 use Rattle.norm.specs.declared.skeleton.Skeleton.{Skeleton}
 use Rattle.grammar.proofs.Held.{fits}
-use Rattle.norm.proofs.Spelling.{long_enough, Spelt, spelt_none, spelt_left, spelt_room, spelt_more, spelt_all}
+use Rattle.norm.proofs.Spelling.{long_enough, Spelt, spelt_none, spelt_room, spelt_more, spelt_all}
 use Rattle.norm.proofs.skeleton.Skeleton.spell.Goals as goal
-
--- a letter without a rule is no first letter
-no_rule : (k : Skeleton) (w : Word) (n i A a : ℕ) (r : Word) (out : List ℕ) → Spelt k w n i (A ∷ r) out → a ≡ letter_at k A → ◌≡◌ {A = Option Word} None (rule_words k A a) → ⊥
-no_rule k w n i A a r out s d e =
-    let there : is_some (rule_words k A (letter_at k A)) ≡ true = k.there A s.below.0 in
-    let none : ◌≡◌ {A = Option Word} None (rule_words k A (letter_at k A)) = e ∙ ap (rule_words k A) d in
-    let z : ◌≡◌ {A = ℕ} 0 1 = cc (ap is_some none) in
-    omega arith
 
 -- one letter on, as the loop has it
 on : (k : Skeleton) (w : Word) (n i A a : ℕ) (x r v y : Word) (out : List ℕ) → Spelt k w n i x out → i < n → n ≤ 512 → x ≡ A ∷ r → a ≡ letter_at k A → Some v ≡ rule_words k A a →
@@ -39,22 +31,6 @@ loop-cell-init c = λ b e l.
     let few = long_enough k w b in
     let put : held c.push_word.new.self ≡ w = fits 512 w (held c.new-left.result) _ c.push_word.ensures (omega arith) ∙ ap (λ x. w ++ x) fresh ∙ append-nil w in
     subst (λ x. Spelt k w (length out) 0 x out) (sym put) (spelt_none k w (length out) out b e (let z : length out ≡ length out = omega arith in z))
-
-pub returns-in_default : goal.returns-in_default
-returns-in_default c = λ b e l.
-    let i = c.loop-cell in
-    let out = c.args.out.now in
-    let none : held i.left ≡ [] = nil_from_length (held i.left) (let h = ltb-false 0 (length (held i.left)) (sym c.in_default.ensures.test) in omega arith) in
-    absurd (spelt_left c.args.self.now c.args.word.now (length out) i.cell-index (held i.left) i.out (i.invariant b e l) (omega arith) none)
-
-pub returns-in_default-word : goal.returns-in_default-word
-returns-in_default-word c = λ b e l.
-    let i = c.loop-cell in
-    let k = c.args.self.now in
-    let w = c.args.word.now in
-    let n = length c.args.out.now in
-    let t : Spelt k w n i.cell-index (c.in-Some.symbol ∷ held c.pop.new.self) i.out = subst (λ z. Spelt k w n i.cell-index z i.out) c.in-Some.ensures.word (i.invariant b e l) in
-    absurd (no_rule k w n i.cell-index c.in-Some.symbol c.letter-letter.result (held c.pop.new.self) i.out t c.letter-letter.ensures c.in_default-word.ensures)
 
 pub loop-cell-preserved : goal.loop-cell-preserved
 loop-cell-preserved c = λ b e l.

@@ -11,6 +11,3 @@ returns-then-symbol-lt-ROWS c =
     let k = c.args.symbol in
     let e : (1 * 2 ^ k) % 2 ^ 32 ≡ 2 ^ k = one_shl k 32 c.if-symbol-lt-ROWS.true in
     λ A. ap (λ x. has (bit_or m x) A) e ∙ marked_one m k c.if-symbol-lt-ROWS.true A
-
-pub invariant_of-self : goal.invariant_of-self
-invariant_of-self c = record { fits = or_lt 32 c.args.self.now.bits ((1 * 2 ^ c.args.symbol) % 2 ^ 32) c.args.self.now.fits (omega arith) }
