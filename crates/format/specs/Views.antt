@@ -1,16 +1,19 @@
 -- What the code's answers stand for.
 --
--- took r rest            what a reader gives, and the bytes that are left, as a reading gives them
--- took_list, took_row    the same where the value is a lent list, or a row
--- newest xs              the item that was read last, if there is one
--- After head before P    P holds behind any items, the newest first, where `before` is the head of the newest
+-- took result rest            what a reader gave, and the bytes that are left, as a reading gives them
+-- Reads o r result s          the reader r reads as the reading o does: it gives the result, and is s then
+-- ReadsItems enc o r result s the same of a section, whose items lie in the bytes as enc says
+-- lent, lent_row              what is given with the lent bytes read out
+-- newest xs                   the item that was read last, if there is one
+-- After head before P         P holds behind any items, the newest first, where `before` is the head of the newest
 --
 -- Assumes nothing.
 use Rattle.std.specs.Prelude.{◌≡◌, ℕ, ◌<◌, true, List, [], ◌∷◌, length, Some, None, Ok, Err, Option, Result}
 use Rattle.std.specs.Borrow.{Bor}
 use Rattle.std.specs.Option.{option_map}
 use Rattle.layout.specs.Contents.{FileRule, FileRow, Contents, joined, rule_bytes, row_bytes}
-use Rattle.layout.specs.Reading.{Read, row, row_follows}
+use Rattle.layout.specs.Reading.{Read, Reading, row, row_follows}
+use Rattle.format.specs.declared.reader.Reader.{Reader}
 use Rattle.format.specs.declared.row.Row.{Row}
 use Rattle.format.specs.declared.row.Section.{Section}
 use Rattle.format.specs.declared.row.Checked.{Checked}
@@ -20,9 +23,14 @@ abbrev pub took : {X : Type 0} → Result X Fault → List ℕ → Result (Read 
 took (Ok x) rest = Ok (record { value = x; rest = rest })
 took (Err f) rest = Err f
 
-abbrev pub took_list : Result (Bor (List ℕ)) Fault → List ℕ → Result (Read (List ℕ)) Fault
-took_list (Ok xs) rest = Ok (record { value = xs.now; rest = rest })
-took_list (Err f) rest = Err f
+-- what it knows of the number of all bytes stays
+pub record Reads {X : Type 0} (o : ℕ → Reading X) (r : Reader) (result : Result X Fault) (s : Reader) : Type 0 where
+  pub read : took result s.left.now ≡ o r.total r.left.now
+  pub total : s.total ≡ r.total
+
+abbrev pub lent : Result (Bor (List ℕ)) Fault → Result (List ℕ) Fault
+lent (Ok xs) = Ok xs.now
+lent (Err f) = Err f
 
 -- the item that was read last
 abbrev pub newest : {X : Type 0} → List X → Option X
@@ -49,9 +57,9 @@ row_head r = r.symbol
 abbrev pub row_of : Row → FileRow
 row_of r = record { symbol = r.symbol; word = r.word.now }
 
-abbrev pub took_row : Result Row Fault → List ℕ → Result (Read FileRow) Fault
-took_row (Ok r) rest = Ok (record { value = row_of r; rest = rest })
-took_row (Err f) rest = Err f
+abbrev pub lent_row : Result Row Fault → Result FileRow Fault
+lent_row (Ok r) = Ok (row_of r)
+lent_row (Err f) = Err f
 
 -- a section's items as they lie in the bytes: how many, and their bytes
 pub record ReadItems {X : Type 0} (enc : X → List ℕ) (o : Result (Read (List X)) Fault) (section : Section) (rest : List ℕ) : Type 0 where
@@ -64,6 +72,10 @@ pub record ReadItems {X : Type 0} (enc : X → List ℕ) (o : Result (Read (List
 abbrev pub GaveItems : {X : Type 0} → (X → List ℕ) → Result (Read (List X)) Fault → Result Section Fault → List ℕ → Type 0
 GaveItems enc o (Ok section) rest = ReadItems enc o section rest
 GaveItems enc o (Err f) rest = o ≡ Err f
+
+pub record ReadsItems {X : Type 0} (enc : X → List ℕ) (o : ℕ → Reading (List X)) (r : Reader) (result : Result Section Fault) (s : Reader) : Type 0 where
+  pub read : GaveItems enc (o r.total r.left.now) result s.left.now
+  pub total : s.total ≡ r.total
 
 abbrev pub TookItems : {X : Type 0} → (X → List ℕ) → Result (Read (List X)) Fault → Result (Section × Bor (List ℕ)) Fault → Type 0
 TookItems enc o (Ok p) = ReadItems enc o p.0 p.1.now

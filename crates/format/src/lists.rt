@@ -1,7 +1,7 @@
 // The sections of names and of kinds.
 ghost use Rattle.std.specs.Prelude.{◌≡◌, ℕ, List, reverse};
 ghost use Rattle.layout.specs.Reading.{name, kind, names, kinds, absent, named};
-ghost use Rattle.format.specs.Views.{took, took_list, After};
+ghost use Rattle.format.specs.Views.{Reads, lent, After};
 
 use crate::reader::Reader;
 use layout::Fault;
@@ -23,8 +23,7 @@ fn is_absent(byte: u8, before: &[u8]) -> bool
 impl<'a> Reader<'a> {
     // A name, none of those before it.
     fn name(&mut self, before: &[u8]) -> Result<u8, Fault>
-        ensures read { took result self.new.left.now ≡ name self.old.total (reverse before.now) self.old.left.now }
-        ensures total { self.new.total ≡ self.old.total }
+        ensures { Reads (λ t. name t (reverse before.now)) self.old result self.new }
     {
         let place = self.place();
         let name = self.byte()?;
@@ -37,8 +36,7 @@ impl<'a> Reader<'a> {
 
     // A kind, above the one before it.
     fn kind(&mut self, before: Option<u8>) -> Result<u8, Fault>
-        ensures read { After (λ (x : ℕ). x) before (λ xs. took result self.new.left.now ≡ kind self.old.total xs self.old.left.now) }
-        ensures total { self.new.total ≡ self.old.total }
+        ensures { After (λ (x : ℕ). x) before (λ xs. Reads (λ t. kind t xs) self.old result self.new) }
     {
         let place = self.place();
         let kind = self.byte()?;
@@ -51,8 +49,7 @@ impl<'a> Reader<'a> {
 
     // The section of names.
     pub(crate) fn names(&mut self) -> Result<&'a [u8], Fault>
-        ensures read { took_list result self.new.left.now ≡ names self.old.total self.old.left.now }
-        ensures total { self.new.total ≡ self.old.total }
+        ensures { Reads names self.old (lent result) self.new }
     {
         let count = self.count_within(1, 32)?;
         let body = self.left;
@@ -64,8 +61,7 @@ impl<'a> Reader<'a> {
 
     // The section of kinds.
     pub(crate) fn kinds(&mut self) -> Result<&'a [u8], Fault>
-        ensures read { took_list result self.new.left.now ≡ kinds self.old.total self.old.left.now }
-        ensures total { self.new.total ≡ self.old.total }
+        ensures { Reads kinds self.old (lent result) self.new }
     {
         let count = self.count_within(0, 2)?;
         let body = self.left;

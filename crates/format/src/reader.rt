@@ -2,7 +2,7 @@
 ghost use Rattle.std.specs.Prelude.{◌≡◌, length, ◌-◌, take};
 ghost use Rattle.layout.specs.Laws.{Bytes};
 ghost use Rattle.layout.specs.Reading.{one, within, below, word, ended, place};
-ghost use Rattle.format.specs.Views.{took, took_list};
+ghost use Rattle.format.specs.Views.{Reads, lent};
 
 use layout::Fault;
 
@@ -31,8 +31,7 @@ impl<'a> Reader<'a> {
 
     // One byte.
     pub(crate) fn byte(&mut self) -> Result<u8, Fault>
-        ensures read { took result self.new.left.now ≡ one self.old.total self.old.left.now }
-        ensures total { self.new.total ≡ self.old.total }
+        ensures { Reads one self.old result self.new }
     {
         match self.left.split_off_first() {
             Some(byte) => Ok(*byte),
@@ -42,8 +41,7 @@ impl<'a> Reader<'a> {
 
     // A count or a length from `low` to `high`.
     pub(crate) fn count_within(&mut self, low: u8, high: u8) -> Result<u8, Fault>
-        ensures read { took result self.new.left.now ≡ within self.old.total low high self.old.left.now }
-        ensures total { self.new.total ≡ self.old.total }
+        ensures { Reads (λ t. within t low high) self.old result self.new }
     {
         let place = self.place();
         let count = self.byte()?;
@@ -56,8 +54,7 @@ impl<'a> Reader<'a> {
 
     // A symbol below `count`.
     pub(crate) fn symbol_below(&mut self, count: u8) -> Result<u8, Fault>
-        ensures read { took result self.new.left.now ≡ below self.old.total count self.old.left.now }
-        ensures total { self.new.total ≡ self.old.total }
+        ensures { Reads (λ t. below t count) self.old result self.new }
     {
         let place = self.place();
         let symbol = self.byte()?;
@@ -70,8 +67,7 @@ impl<'a> Reader<'a> {
 
     // `len` symbols below `count`.
     pub(crate) fn word(&mut self, count: u8, len: u8) -> Result<&'a [u8], Fault>
-        ensures read { took_list result self.new.left.now ≡ word self.old.total count len self.old.left.now }
-        ensures total { self.new.total ≡ self.old.total }
+        ensures { Reads (λ t. word t count len) self.old (lent result) self.new }
     {
         let body = self.left;
         for _k in 0..len {

@@ -3,7 +3,7 @@ ghost use Rattle.std.specs.Prelude.{◌≡◌};
 ghost use Rattle.layout.specs.Contents.{row_bytes};
 ghost use Rattle.layout.specs.Laws.{RowsLaw};
 ghost use Rattle.layout.specs.Reading.{row, rows};
-ghost use Rattle.format.specs.Views.{took_row, row_head, After, Judged, GaveItems, TookItems};
+ghost use Rattle.format.specs.Views.{Reads, lent_row, row_head, After, Judged, ReadsItems, TookItems};
 
 use crate::reader::Reader;
 use crate::row::{Row, Section};
@@ -26,8 +26,7 @@ impl<'a> Reader<'a> {
     // A row: its symbol, after the one before it, its length 1 to 64 and that many symbols. A wrong
     // symbol is told before the bytes are found to end.
     fn row(&mut self, count: u8, before: Option<u8>) -> Result<Row<'a>, Fault>
-        ensures read { After row_head before (λ xs. took_row result self.new.left.now ≡ row self.old.total count xs self.old.left.now) }
-        ensures total { self.new.total ≡ self.old.total }
+        ensures { After row_head before (λ xs. Reads (λ t. row t count xs) self.old (lent_row result) self.new) }
     {
         match self.left {
             [symbol, length, rest @ ..] => {
@@ -52,8 +51,7 @@ impl<'a> Reader<'a> {
 
     // The section of rows over `count` symbols.
     pub(crate) fn rows(&mut self, count: u8) -> Result<Section<'a>, Fault>
-        ensures read { GaveItems row_bytes (rows self.old.total count self.old.left.now) result self.new.left.now }
-        ensures total { self.new.total ≡ self.old.total }
+        ensures { ReadsItems row_bytes (λ t. rows t count) self.old result self.new }
     {
         let size = self.count_within(0, 31)?;
         let body = self.left;

@@ -2,7 +2,7 @@
 ghost use Rattle.std.specs.Prelude.{◌≡◌, []};
 ghost use Rattle.layout.specs.Contents.{rule_bytes};
 ghost use Rattle.layout.specs.Reading.{rule, a_letter, rule_count, number, many, rules};
-ghost use Rattle.format.specs.Views.{took, After, seen, rule_head, GaveItems};
+ghost use Rattle.format.specs.Views.{Reads, After, seen, rule_head, ReadsItems};
 
 use crate::reader::Reader;
 use crate::row::Section;
@@ -11,8 +11,7 @@ use layout::Fault;
 impl<'a> Reader<'a> {
     // The count of rules, two bytes, high first.
     fn rule_count(&mut self) -> Result<u16, Fault>
-        ensures read { took result self.new.left.now ≡ rule_count self.old.total self.old.left.now }
-        ensures total { self.new.total ≡ self.old.total }
+        ensures { Reads rule_count self.old result self.new }
     {
         let place = self.place();
         let high = self.byte()?;
@@ -27,8 +26,7 @@ impl<'a> Reader<'a> {
 
     // The letter of a rule.
     fn letter(&mut self) -> Result<u8, Fault>
-        ensures read { took result self.new.left.now ≡ a_letter self.old.total self.old.left.now }
-        ensures total { self.new.total ≡ self.old.total }
+        ensures { Reads a_letter self.old result self.new }
     {
         let place = self.place();
         let letter = self.byte()?;
@@ -41,8 +39,7 @@ impl<'a> Reader<'a> {
 
     // Passes over the numbers of a tally with `kinds` kinds, four bytes each.
     fn skip_numbers(&mut self, kinds: u8) -> Result<(), Fault>
-        ensures read { took result self.new.left.now ≡ seen (λ _. tt) (many self.old.total (number self.old.total) kinds [] self.old.left.now) }
-        ensures total { self.new.total ≡ self.old.total }
+        ensures { Reads (λ t bs. seen (λ _. tt) (many t (number t) kinds [] bs)) self.old result self.new }
     {
         let size = kinds as usize * 4;
         if self.left.len() < size {
@@ -54,8 +51,7 @@ impl<'a> Reader<'a> {
 
     // A rule: a symbol, a letter, after the rule before it, the tally's numbers, a length up to 4 and a word.
     fn rule(&mut self, count: u8, kinds: u8, before: Option<(u8, u8)>) -> Result<(u8, u8), Fault>
-        ensures read { After rule_head before (λ xs. took result self.new.left.now ≡ seen rule_head (rule self.old.total count kinds xs self.old.left.now)) }
-        ensures total { self.new.total ≡ self.old.total }
+        ensures { After rule_head before (λ xs. Reads (λ t bs. seen rule_head (rule t count kinds xs bs)) self.old result self.new) }
     {
         let place = self.place();
         let symbol = self.symbol_below(count)?;
@@ -71,8 +67,7 @@ impl<'a> Reader<'a> {
 
     // The section of rules over `count` symbols and `kinds` kinds.
     pub(crate) fn rules(&mut self, count: u8, kinds: u8) -> Result<Section<'a>, Fault>
-        ensures read { GaveItems rule_bytes (rules self.old.total count kinds self.old.left.now) result self.new.left.now }
-        ensures total { self.new.total ≡ self.old.total }
+        ensures { ReadsItems rule_bytes (λ t. rules t count kinds) self.old result self.new }
     {
         let size = self.rule_count()?;
         let body = self.left;

@@ -16,12 +16,15 @@ loop-k-preserved c =
     let read = sym (c.in_ok-name.ensures.read ∙ ap (λ xs. name t xs left) before) in
     on_more w c.loop-k-test.true read c.in_ok-name.ensures.total (bytewise_more _ w.items _ _ _ w.known (single_name t w.items left _ read))
 
-pub returns-in_err-name-clause-read : goal.returns-in_err-name-clause-read
-returns-in_err-name-clause-read c =
+pub returns-in_err-name : goal.returns-in_err-name
+returns-in_err-name c =
     let p = err_from_is_err_and c.from_residual-in_err-name.result c.from_residual-in_err-name.ensures.1 in
     let w = c.loop-k.invariant in
     let t = c.args.self.now.total in
     let left = c.loop-k.self.left.now in
     let before = ap reverse (c.read_of.ensures.value ∙ front_of _ _ left w.known) ∙ reverse-reverse w.items in
     let read = sym (c.in_err-name.ensures.read ∙ ap (λ xs. name c.loop-k.self.total xs left) before) in
-    rw (p.1, p.2) (sym (then_ok _ (λ n. many t (name t) n []) _ _ (sym c.in_ok-count.ensures.read) ∙ on_wrong w c.loop-k-test.true read))
+    record {
+      read = rw (p.1, p.2) (sym (then_ok _ (λ n. many t (name t) n []) _ _ (sym c.in_ok-count.ensures.read) ∙ on_wrong w c.loop-k-test.true read));
+      total = c.in_err-name.ensures.total ∙ w.same;
+    }

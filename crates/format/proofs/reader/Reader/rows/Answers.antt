@@ -10,10 +10,11 @@ use Rattle.format.proofs.reader.Reader.rows.Goals as goal
 pub loop-k-preserved : goal.loop-k-preserved
 loop-k-preserved c =
     let w = c.loop-k.invariant in
-    on_more w c.loop-k-test.true (sym (c.in_ok-row.ensures.read w.items w.known)) c.in_ok-row.ensures.total refl
+    let got = c.in_ok-row.ensures w.items w.known in
+    on_more w c.loop-k-test.true (sym got.read) got.total refl
 
-pub returns-clause-read : goal.returns-clause-read
-returns-clause-read c =
+pub returns : goal.returns
+returns c =
     let w = c.loop-k.invariant in
     let t = c.args.self.now.total in
     let bs = c.args.self.now.left.now in
@@ -24,8 +25,11 @@ returns-clause-read c =
     let used = sym (single_within t 0 31 bs _ size) ∙ (rows_sound t bs c.args.count _ reads).1 in
     let body : s ≡ joined row_bytes (reverse w.items) ++ c.loop-k.self.left.now = cc in
     record {
-      items = reverse w.items;
-      reads = reads;
-      count = sym whole.1;
-      bytes = c.read_of.ensures.value ∙ front_of s _ c.loop-k.self.left.now body;
+      read = record {
+        items = reverse w.items;
+        reads = reads;
+        count = sym whole.1;
+        bytes = c.read_of.ensures.value ∙ front_of s _ c.loop-k.self.left.now body;
+      };
+      total = w.same;
     }

@@ -11,20 +11,25 @@ pub loop-k-preserved : goal.loop-k-preserved
 loop-k-preserved c =
     let w = c.loop-k.invariant in
     let item = rule c.loop-k.self.total c.args.count c.args.kinds w.items c.loop-k.self.left.now in
-    let read = seen_ok rule_head item _ _ (c.in_ok-rule.ensures.read w.items w.known) in
-    on_more w c.loop-k-test.true read.1 c.in_ok-rule.ensures.total (ap {B = Option (ℕ × ℕ)} Some read.2)
+    let got = c.in_ok-rule.ensures w.items w.known in
+    let read = seen_ok rule_head item _ _ got.read in
+    on_more w c.loop-k-test.true read.1 got.total (ap {B = Option (ℕ × ℕ)} Some read.2)
 
-pub returns-in_err-rule-clause-read : goal.returns-in_err-rule-clause-read
-returns-in_err-rule-clause-read c =
+pub returns-in_err-rule : goal.returns-in_err-rule
+returns-in_err-rule c =
     let p = err_from_is_err_and c.from_residual-in_err-rule.result c.from_residual-in_err-rule.ensures.1 in
     let w = c.loop-k.invariant in
     let t = c.args.self.now.total in
     let item = rule c.loop-k.self.total c.args.count c.args.kinds w.items c.loop-k.self.left.now in
-    let read = seen_err rule_head item _ (c.in_err-rule.ensures.read w.items w.known) in
-    rw (p.1, p.2) (then_ok _ (λ n. many t (rule t c.args.count c.args.kinds) n []) _ _ (sym c.in_ok-size.ensures.read) ∙ on_wrong w c.loop-k-test.true read)
+    let got = c.in_err-rule.ensures w.items w.known in
+    let read = seen_err rule_head item _ got.read in
+    record {
+      read = rw (p.1, p.2) (then_ok _ (λ n. many t (rule t c.args.count c.args.kinds) n []) _ _ (sym c.in_ok-size.ensures.read) ∙ on_wrong w c.loop-k-test.true read);
+      total = got.total ∙ w.same;
+    }
 
-pub returns-clause-read : goal.returns-clause-read
-returns-clause-read c =
+pub returns : goal.returns
+returns c =
     let w = c.loop-k.invariant in
     let t = c.args.self.now.total in
     let s = c.rule_count.new.self.left.now in
@@ -33,8 +38,11 @@ returns-clause-read c =
     let few = few_rules t c.args.self.now.left.now _ size in
     let body = rules_in t c.args.count c.args.kinds _ s _ _ few c.read_of.ensures.bytes whole.0 whole.1 in
     record {
-      items = reverse w.items;
-      reads = then_ok _ (λ n. many t (rule t c.args.count c.args.kinds) n []) _ _ size ∙ whole.0;
-      count = sym whole.1;
-      bytes = c.read_of.ensures.value ∙ front_of s _ c.loop-k.self.left.now body;
+      read = record {
+        items = reverse w.items;
+        reads = then_ok _ (λ n. many t (rule t c.args.count c.args.kinds) n []) _ _ size ∙ whole.0;
+        count = sym whole.1;
+        bytes = c.read_of.ensures.value ∙ front_of s _ c.loop-k.self.left.now body;
+      };
+      total = w.same;
     }
