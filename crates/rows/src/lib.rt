@@ -8,5 +8,4 @@ use tally::Tally;
 // The laws of rows stand for every tally; a sheet carries them for its grammar.
 pub fn rows_stand<T: Tally>()
     ensures law { RowsLaw T.Tally.group }
-{
-}
+{}
