@@ -6,6 +6,7 @@ pub mod Listed
 pub mod Twinned
 pub mod WordStacks
 pub mod Stepping
+pub mod Parts
 pub mod Places
 pub mod TooLong
 pub mod WellListed

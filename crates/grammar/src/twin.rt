@@ -28,7 +28,16 @@ fn keep(symbol: u8, count: u8) -> u8
     if symbol < count { symbol } else { 255 }
 }
 
+// The part of a twin that has a symbol, and the symbol's number there.
+#[derive(Clone, Copy)]
+pub(crate) enum Part {
+    First(u8),
+    Second(u8),
+}
+
 impl<G: Grammar, H: Grammar<T = G::T>> Twin<G, H> {
+    ghost use Rattle.grammar.specs.Parts.{IsPart};
+
     // The twin of two grammars.
     pub fn new(first: G, second: H) -> Twin<G, H>
         ensures first { result.first ≡ first }
@@ -36,6 +45,20 @@ impl<G: Grammar, H: Grammar<T = G::T>> Twin<G, H> {
         ensures law { TwinLaw G.T.Tally.group (G.Grammar.meaning first) (H.Grammar.meaning second) }
     {
         Twin { first, second }
+    }
+
+    // The part that has the symbol; none where the symbol is not below the twin's count.
+    fn part(&self, symbol: u8) -> Option<Part>
+        ensures { IsPart (G.Grammar.meaning self.now.first).count (H.Grammar.meaning self.now.second).count symbol result }
+    {
+        let mid = self.first.count();
+        if symbol < mid {
+            Some(Part::First(symbol))
+        } else if symbol < raise(self.second.count(), mid) {
+            Some(Part::Second(symbol - mid))
+        } else {
+            None
+        }
     }
 }
 
@@ -51,46 +74,35 @@ impl<G: Grammar, H: Grammar<T = G::T>> Grammar for Twin<G, H> {
     }
 
     fn has_rule(&self, symbol: u8, letter: u8) -> bool {
-        let mid = self.first.count();
-        if symbol < mid {
-            self.first.has_rule(symbol, letter)
-        } else if symbol < self.count() {
-            self.second.has_rule(symbol - mid, letter)
-        } else {
-            false
+        match self.part(symbol) {
+            Some(Part::First(own)) => self.first.has_rule(own, letter),
+            Some(Part::Second(own)) => self.second.has_rule(own, letter),
+            None => false,
         }
     }
 
     fn rule_len(&self, symbol: u8, letter: u8) -> u8 {
-        let mid = self.first.count();
-        if symbol < mid {
-            self.first.rule_len(symbol, letter)
-        } else if symbol < self.count() {
-            self.second.rule_len(symbol - mid, letter)
-        } else {
-            0
+        match self.part(symbol) {
+            Some(Part::First(own)) => self.first.rule_len(own, letter),
+            Some(Part::Second(own)) => self.second.rule_len(own, letter),
+            None => 0,
         }
     }
 
     fn rule_symbol(&self, symbol: u8, letter: u8, at: u8) -> u8 {
         let mid = self.first.count();
-        if symbol < mid {
-            keep(self.first.rule_symbol(symbol, letter, at), mid)
-        } else if symbol < self.count() {
-            raise(self.second.rule_symbol(symbol - mid, letter, at), mid)
-        } else {
-            255
+        match self.part(symbol) {
+            Some(Part::First(own)) => keep(self.first.rule_symbol(own, letter, at), mid),
+            Some(Part::Second(own)) => raise(self.second.rule_symbol(own, letter, at), mid),
+            None => 255,
         }
     }
 
     fn rule_tally(&self, symbol: u8, letter: u8) -> G::T {
-        let mid = self.first.count();
-        if symbol < mid {
-            self.first.rule_tally(symbol, letter)
-        } else if symbol < self.count() {
-            self.second.rule_tally(symbol - mid, letter)
-        } else {
-            <G::T as Tally>::zero()
+        match self.part(symbol) {
+            Some(Part::First(own)) => self.first.rule_tally(own, letter),
+            Some(Part::Second(own)) => self.second.rule_tally(own, letter),
+            None => <G::T as Tally>::zero(),
         }
     }
 }
