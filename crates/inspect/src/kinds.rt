@@ -11,15 +11,12 @@ use tally::{FootMm, LastMm, OddOnes, Pair, Untallied};
 
 // The check's answer, unless it is that the file has other kinds than the tally T.
 fn check_as<T: FileTally>(bytes: &[u8]) -> Option<Result<Checked<'_>, Fault>>
-    ensures own { MatchOption result (checked T.FileTally.kinds bytes.now ≡ Err Kinds) (λ a. Answers (checked T.FileTally.kinds bytes.now) a) }
-    ensures any { MatchOption result (checked T.FileTally.kinds bytes.now ≡ Err Kinds) (λ a. Answers (checked_any bytes.now) a) }
+    ensures { MatchOption result (checked T.FileTally.kinds bytes.now ≡ Err Kinds) (λ a. Answers (checked_any bytes.now) a) }
 {
     match check_file::<T>(bytes) {
         Ok(file) => Some(Ok(file)),
-        Err(fault) => match fault {
-            Fault::Kinds => None,
-            _ => Some(Err(fault)),
-        },
+        Err(Fault::Kinds) => None,
+        Err(fault) => Some(Err(fault)),
     }
 }
 
@@ -27,25 +24,13 @@ fn check_as<T: FileTally>(bytes: &[u8]) -> Option<Result<Checked<'_>, Fault>>
 fn answer_any(bytes: &[u8]) -> Result<Checked<'_>, Fault>
     ensures { Answers (checked_any bytes.now) result }
 {
-    if let Some(answer) = check_as::<Untallied>(bytes) {
-        return answer;
-    }
-    if let Some(answer) = check_as::<FootMm>(bytes) {
-        return answer;
-    }
-    if let Some(answer) = check_as::<LastMm>(bytes) {
-        return answer;
-    }
-    if let Some(answer) = check_as::<OddOnes>(bytes) {
-        return answer;
-    }
-    if let Some(answer) = check_as::<Pair<FootMm, LastMm>>(bytes) {
-        return answer;
-    }
-    if let Some(answer) = check_as::<Pair<FootMm, OddOnes>>(bytes) {
-        return answer;
-    }
-    check_file::<Pair<LastMm, OddOnes>>(bytes)
+    check_as::<Untallied>(bytes)
+        .or_else(|| check_as::<FootMm>(bytes))
+        .or_else(|| check_as::<LastMm>(bytes))
+        .or_else(|| check_as::<OddOnes>(bytes))
+        .or_else(|| check_as::<Pair<FootMm, LastMm>>(bytes))
+        .or_else(|| check_as::<Pair<FootMm, OddOnes>>(bytes))
+        .unwrap_or_else(|| check_file::<Pair<LastMm, OddOnes>>(bytes))
 }
 
 // Checks a file for the kinds that it states itself. The bytes are accepted just if they encode legal

@@ -3,32 +3,28 @@
 #![tactic(auto)]
 
 mod kinds;
+mod listing;
 mod parts;
 #[cfg(test)]
 mod tests;
 
 use kinds::check_any;
-use layout::{Fault, FaultCode};
-use parts::show;
+use layout::FaultCode;
+use listing::show;
 use std::io::Read;
 
-// A refusal as one line: the fault's number and its two numbers.
-fn refuse(rt: &HostRuntime, fault: Fault) -> anyhow::Result<()> {
-    let code = FaultCode::from(fault);
-    let number = code.number;
-    let first = code.first;
-    let second = code.second;
-    println!(rt; "refused {number} {first} {second}")?;
-    Ok(())
-}
-
-fn run(rt: &HostRuntime) -> anyhow::Result<()> {
+// Prints the file, or the fault's number and its two numbers.
+fn run(rt: &(impl Print + Input + AllocGlobal)) -> anyhow::Result<()> {
     let mut bytes = Vec::new(rt.alloc());
-    rt.stdin().read_to_end(&mut bytes)?;
+    rt.reader().read_to_end(&mut bytes)?;
     match check_any(&bytes) {
-        Ok(file) => show(rt, file),
-        Err(fault) => refuse(rt, fault),
+        Ok(file) => show(rt, file)?,
+        Err(fault) => {
+            let code = FaultCode::from(fault);
+            println!(rt; "refused {code}")?
+        }
     }
+    Ok(())
 }
 
 fn main(rt: HostRuntime) -> anyhow::Result<()> {

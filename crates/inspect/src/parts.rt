@@ -1,120 +1,124 @@
-// The parts of a checked file, in words.
-use format::{Checked, Section};
-use std::alloc::Global;
+// The rules and the rows of a checked file, one by one.
+ghost use Rattle.std.specs.Prelude.{◌<◌, length, IfSome};
+ghost use Rattle.std.specs.Iterator.{at_most};
 
-// The names of a word's symbols run together, a minus sign for the empty word.
-fn spelled(heap: Global, names: &[u8], word: &[u8]) -> anyhow::Result<String> {
-    let mut text = String::new(heap);
-    for symbol in word {
-        let name = names.get(*symbol as usize).copied().unwrap_or(b'?');
-        text.push(char::from(name))?;
-    }
-    if word.is_empty() {
-        text.push('-')?;
-    }
-    Ok(text)
+use std::fmt;
+
+// A rule: its symbol, its letter, the four bytes of each number, and its word.
+#[derive(Clone, Copy)]
+pub struct Rule<'a> {
+    pub symbol: u8,
+    pub letter: u8,
+    pub numbers: &'a [u8],
+    pub word: &'a [u8],
 }
 
-// What a kind is called.
-fn kind_name(kind: u8) -> &'static str {
-    match kind {
-        1 => "foot",
-        2 => "last",
-        _ => "odd",
+impl<'a> Rule<'a> {
+    // How many bytes it has: the three of symbol, letter and length, and those of the numbers and the word.
+    pub fn size(&self) -> usize {
+        3usize
+            .saturating_add(self.numbers.len())
+            .saturating_add(self.word.len())
     }
 }
 
-// The names and the kinds.
-fn show_head(rt: &HostRuntime, file: &Checked) -> anyhow::Result<()> {
-    let count = file.names.len();
-    println!(rt; "0: {count} names")?;
-    for (i, name) in file.names.iter().enumerate() {
-        let place = i.saturating_add(1);
-        let name = char::from(*name);
-        println!(rt; "{place}: {name}")?;
-    }
-    let place = count.saturating_add(1);
-    let kinds = file.kinds.len();
-    println!(rt; "{place}: {kinds} kinds")?;
-    for (i, kind) in file.kinds.iter().enumerate() {
-        let place = place.saturating_add(1).saturating_add(i);
-        let kind = kind_name(*kind);
-        println!(rt; "{place}: {kind}")?;
-    }
-    Ok(())
+// The first word behind its length, and what follows.
+fn split_word(bytes: &[u8]) -> Option<(&[u8], &[u8])>
+    ensures { IfSome result (λ p. length p.1.now < length bytes.now) }
+{
+    let (len, rest) = bytes.split_first()?;
+    rest.split_at_checked(usize::from(*len))
 }
 
-// The numbers of a rule, each after a space, and the bytes behind them.
-fn numbers<'a>(heap: Global, kinds: usize, bytes: &'a [u8]) -> anyhow::Result<(String, &'a [u8])> {
-    let mut text = String::new(heap);
-    let mut left = bytes;
-    for _ in 0..kinds {
-        let [a, b, c, d, rest @ ..] = left else {
-            break;
-        };
-        let number = u32::from_be_bytes([*a, *b, *c, *d]);
-        let shown = format!(in heap; " {number}")?;
-        text.push_str(shown.as_str())?;
-        left = rest;
-    }
-    Ok((text, left))
+// The first rule of a file with so many kinds, and what follows.
+fn split_rule(bytes: &[u8], kinds: usize) -> Option<(Rule<'_>, &[u8])>
+    ensures { IfSome result (λ p. length p.1.now < length bytes.now) }
+{
+    let [symbol, letter, rest @ ..] = bytes else {
+        return None;
+    };
+    let (numbers, rest) = rest.split_at_checked(kinds.saturating_mul(4))?;
+    let (word, rest) = split_word(rest)?;
+    let rule = Rule {
+        symbol: *symbol,
+        letter: *letter,
+        numbers,
+        word,
+    };
+    Some((rule, rest))
 }
 
-// The rules, from a place on; the place behind them.
-fn show_rules(rt: &HostRuntime, file: &Checked, from: usize) -> anyhow::Result<usize> {
-    let heap = rt.alloc();
-    let count = file.rules.count;
-    println!(rt; "{from}: {count} rules")?;
-    let mut place = from.saturating_add(2);
-    let mut left = file.rules.bytes;
-    for _ in 0..count {
-        let [symbol, letter, rest @ ..] = left else {
-            break;
-        };
-        let (numbers, rest) = numbers(heap, file.kinds.len(), rest)?;
-        let [len, rest @ ..] = rest else {
-            break;
-        };
-        let (word, next) = rest.split_at(rest.len().min(*len as usize));
-        let word = spelled(heap, file.names, word)?;
-        let name = spelled(heap, file.names, &[*symbol])?;
-        let letter = char::from(*letter);
-        println!(rt; "{place}: {name} {letter}{numbers} {word}")?;
-        place = place.saturating_add(left.len().saturating_sub(next.len()));
-        left = next;
-    }
-    Ok(place)
+// The rules that lie in the bytes of a file with so many kinds.
+#[derive(Drop)]
+pub struct Rules<'a> {
+    pub bytes: &'a [u8],
+    pub kinds: usize,
 }
 
-// The rows, from a place on.
-fn show_rows(rt: &HostRuntime, names: &[u8], rows: Section, from: usize) -> anyhow::Result<()> {
-    let heap = rt.alloc();
-    let count = rows.count;
-    println!(rt; "{from}: {count} rows")?;
-    let mut place = from.saturating_add(1);
-    let mut left = rows.bytes;
-    for _ in 0..count {
-        let [symbol, len, rest @ ..] = left else {
-            break;
-        };
-        let (word, next) = rest.split_at(rest.len().min(*len as usize));
-        let word = spelled(heap, names, word)?;
-        let name = spelled(heap, names, &[*symbol])?;
-        println!(rt; "{place}: {name} {word}")?;
-        place = place.saturating_add(left.len().saturating_sub(next.len()));
-        left = next;
+impl<'a> Iterator for Rules<'a> {
+    type Item = Rule<'a>;
+
+    ghost remaining = { λ s. at_most (length s.bytes.now) };
+
+    fn next(&mut self) -> Option<Rule<'a>> {
+        let (rule, rest) = split_rule(self.bytes, self.kinds)?;
+        self.bytes = rest;
+        Some(rule)
     }
-    Ok(())
 }
 
-// The whole file.
-pub fn show(rt: &HostRuntime, file: Checked) -> anyhow::Result<()> {
-    show_head(rt, &file)?;
-    let from = file
-        .names
-        .len()
-        .saturating_add(file.kinds.len())
-        .saturating_add(2);
-    let place = show_rules(rt, &file, from)?;
-    show_rows(rt, file.names, file.rows, place)
+// The rows that lie in the bytes, each a symbol and a word.
+#[derive(Drop)]
+pub struct Rows<'a>(pub &'a [u8]);
+
+impl<'a> Iterator for Rows<'a> {
+    type Item = (u8, &'a [u8]);
+
+    ghost remaining = { λ s. at_most (length s.0.now) };
+
+    fn next(&mut self) -> Option<(u8, &'a [u8])> {
+        let (symbol, rest) = self.0.split_first()?;
+        let (word, rest) = split_word(rest)?;
+        self.0 = rest;
+        Some((*symbol, word))
+    }
+}
+
+// Symbols by their names run together, a minus sign for none.
+#[derive(Clone, Copy)]
+pub struct Spelled<'a> {
+    pub names: &'a [u8],
+    pub word: &'a [u8],
+}
+
+impl<'a> fmt::Display for Spelled<'a> {
+    fn fmt<W: fmt::Write>(&self, f: &mut fmt::Formatter<W>) -> fmt::Result {
+        if self.word.is_empty() {
+            return f.write_str("-");
+        }
+        for symbol in self.word {
+            let name = self
+                .names
+                .get(usize::from(*symbol))
+                .copied()
+                .unwrap_or(b'?');
+            f.write_char(char::from(name))?;
+        }
+        Ok(())
+    }
+}
+
+// Numbers of four bytes, high first, each after a space.
+#[derive(Clone, Copy)]
+pub struct Numbers<'a>(pub &'a [u8]);
+
+impl<'a> fmt::Display for Numbers<'a> {
+    fn fmt<W: fmt::Write>(&self, f: &mut fmt::Formatter<W>) -> fmt::Result {
+        let (numbers, _) = self.0.as_chunks::<4>();
+        for bytes in numbers {
+            let number = u32::from_be_bytes(*bytes);
+            write!(f, " {number}")?;
+        }
+        Ok(())
+    }
 }

@@ -3,10 +3,10 @@ use layout::FaultCode;
 
 // The number and the first number of a refusal, (0, 0) where there is none.
 fn refusal(bytes: &[u8]) -> (u8, usize) {
-    match check_any(bytes) {
-        Ok(_) => (0, 0),
-        Err(fault) => (FaultCode::from(fault).number, FaultCode::from(fault).first),
-    }
+    check_any(bytes).err().map_or((0, 0), |fault| {
+        let code = FaultCode::from(fault);
+        (code.number, code.first)
+    })
 }
 
 // Small files, good and damaged, at the edges of the rules.
