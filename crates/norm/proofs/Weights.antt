@@ -35,6 +35,11 @@ each_at P [] i d h e = absurd (omega arith)
 each_at P (A ∷ w) zero d h e = e.0
 each_at P (A ∷ w) (suc i) d h e = each_at P w i d (omega arith) e.1
 
+-- and back
+pub each_from_places : (P : ℕ → Type 0) (w : Word) → ((k : ℕ) → k < length w → P (get_or w k 0)) → Each P w
+each_from_places P [] h = tt
+each_from_places P (A ∷ w) h = (h 0 (omega arith), each_from_places P w (λ k l. h (suc k) (omega arith)))
+
 -- the norm of a word, added up symbol by symbol to a limit
 pub norms_fold : (norm : ℕ → ℕ) (top : ℕ) (w : Word) (k : ℕ) → k ≤ top → fold (λ s B. min (s + norm B) top) k w ≡ min (k + norms norm w) top
 norms_fold norm top [] k h = omega arith

@@ -12,15 +12,13 @@ use Rattle.grammar.specs.Listed.{letter}
 use Rattle.norm.specs.Words.{words_of, body}
 use Rattle.norm.specs.Tabled.{held, index, stored}
 use Rattle.norm.specs.declared.short_word.ShortWord.{ShortWord}
+use Rattle.norm.proofs.Stored.{letter_true}
 use Rattle.norm.proofs.Weights.{each_at}
 use Rattle.survey.specs.Refusals.{Sized, Fine, BadRule, Sooner, Refused, bad_rule}
 use Rattle.survey.specs.Laws.{TakenUp}
 use Rattle.survey.specs.declared.fault.GrammarFault.{GrammarFault}
 
--- a letter, told by its test
-pub letter_true : (a : ℕ) → letter a ≡ true → Letter a
-letter_true a e = let h = and_parts (leb 65 a) (leb a 90) e in (leb-true 65 a h.0, leb-true a 90 h.1)
-
+-- no letter, told by its test
 pub letter_false : (a : ℕ) → letter a ≡ false → ¬ Letter a
 letter_false a e h = ⊎_elim (λ d. let x = leb-false 65 a d in omega arith) (λ d. let x = leb-false a 90 d in omega arith) (and_cases (leb 65 a) (leb a 90) e)
 

@@ -6,7 +6,7 @@ use Rattle.grammar.specs.Meaning.{Word, word_of, tally_of}
 use Rattle.norm.specs.Tabled.{index}
 use Rattle.norm.specs.Words.{words_of}
 use Rattle.survey.specs.Surveyed.{weigh, words_in, surveyed}
-use Rattle.survey.specs.WellSurveyed.{stored_tested}
+use Rattle.norm.proofs.Stored.{stored_tested}
 use Rattle.survey.specs.declared.table.Survey.{Survey}
 
 -- an element that is there
