@@ -1,6 +1,5 @@
 -- Sums over the symbols of a word, and what holds of each symbol. Assumes nothing.
-use Rattle.std.proofs.Common.{◌≡◌, ℕ, zero, suc, ◌+◌, ◌<◌, ◌≤◌, min, [], ◌∷◌, ◌++◌, length, get_or, take, fold, sym, refl, ap, ◌∙◌, subst, append_assoc, arith}
-use Rattle.std.proofs.lemmas.List.{take_more}
+use Rattle.std.proofs.Common.{◌≡◌, ℕ, zero, suc, ◌+◌, ◌<◌, ◌≤◌, min, [], ◌∷◌, ◌++◌, length, get_or, fold, sym, refl, ap, ◌∙◌, append_assoc, arith}
 use Rattle.grammar.specs.Meaning.{Word, Input, Each}
 use Rattle.norm.specs.Norms.{norms, firsts}
 
