@@ -1,6 +1,5 @@
 -- Measures along a word, symbol by symbol, and what they say of norms. Assumes nothing.
-use Rattle.std.proofs.Common.{◌≡◌, ℕ, suc, ◌+◌, ◌<◌, ◌≤◌, min, Bool, true, false, cond, ltb, [], ◌∷◌, length, get_or, drop, refl, ◌∙◌, arith, ltb-false, ltb-true, le-ltb, lt-ltb}
-use Rattle.std.proofs.lemmas.List.{at_drop_more, at_drop_all}
+use Rattle.std.proofs.Common.{◌≡◌, ℕ, suc, ◌+◌, ◌≤◌, min, Bool, true, false, cond, ltb, [], ◌∷◌, refl, arith, ltb-false, ltb-true, le-ltb}
 use Rattle.grammar.specs.Meaning.{Word, Each}
 use Rattle.norm.specs.Norms.{norms}
 use Rattle.norm.specs.Measured.{along}

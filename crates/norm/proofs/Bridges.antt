@@ -8,7 +8,7 @@ use Rattle.tally.specs.Group.{Group}
 use Rattle.grammar.specs.Meaning.{Word, Input, Weighted, Meaning}
 use Rattle.grammar.specs.Takes.{behind, shift, follow, takes}
 use Rattle.grammar.proofs.Options.{none_some, some_same}
-use Rattle.norm.specs.Words.{raised, onward, ran, words_of, body, reads}
+use Rattle.norm.specs.Words.{raised, onward, ran, words_of, reads}
 use Rattle.norm.specs.Norms.{Taken}
 
 module _ {T : Type 0} (𝓣 : Group T) where

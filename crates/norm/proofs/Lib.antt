@@ -7,5 +7,6 @@ pub mod FromFn
 pub mod Along
 pub mod Bests
 pub mod Lowering
+pub mod Stored
 pub mod Settling
 pub mod Spelling

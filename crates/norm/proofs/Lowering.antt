@@ -15,11 +15,6 @@ use Rattle.norm.specs.Words.{Words, body, passed, reads, Lives}
 use Rattle.norm.specs.Measured.{measure, makes, Best, Reached}
 use Rattle.norm.proofs.Along.{along_each, along_less}
 
--- what holds at each place holds of each symbol
-pub each_from_places : (P : ℕ → Type 0) (w : Word) → ((k : ℕ) → k < length w → P (get_or w k 0)) → Each P w
-each_from_places P [] h = tt
-each_from_places P (A ∷ w) h = (h 0 (omega arith), each_from_places P w (λ k l. h (suc k) (omega arith)))
-
 module _ (R : Words) where
   -- where x ends with s, what x and then y leave is what y leaves
   pub reads_behind : (s : Input) (x y : Word) (r : Input) → reads R x s ≡ Some [] → reads R (x ++ y) (s ++ r) ≡ reads R y r

@@ -4,8 +4,8 @@
 -- A symbol without a measure has only rules through such symbols, so no word with one of them ends.
 --
 -- Assumes nothing.
-use Rattle.std.proofs.Common.{◌≡◌, ℕ, suc, ◌<◌, ◌≤◌, true, false, cond, ◌&&◌, ltb, ◌⊎◌, List, [], ◌∷◌, ◌++◌, length, get_or, is_some, Some, None, Option, sym, refl, ap, subst, inl, inr, ⊎_elim, arith, ltb-true}
-use Rattle.std.proofs.lemmas.Bool.{cases_lt, and_parts}
+use Rattle.std.proofs.Common.{◌≡◌, ℕ, suc, ◌<◌, ◌≤◌, true, ◌⊎◌, List, [], ◌∷◌, ◌++◌, length, get_or, is_some, Some, None, Option, sym, refl, ap, subst, inl, inr, ⊎_elim, arith}
+use Rattle.std.proofs.lemmas.Bool.{cases_lt}
 use Rattle.grammar.specs.Meaning.{Word, Input, Each, Below}
 use Rattle.grammar.specs.Listed.{letter}
 use Rattle.grammar.proofs.Options.{none_some}
@@ -19,16 +19,8 @@ use Rattle.norm.specs.declared.short_word.ShortWord.{ShortWord}
 use Rattle.norm.proofs.Along.{along_le, along_exact, along_top, each_along}
 use Rattle.norm.proofs.Certificates as certificates
 use Rattle.norm.proofs.Certificates.{ends_step, word_there}
-use Rattle.norm.proofs.Lowering.{each_from_places}
-use Rattle.norm.proofs.Weights.{each_front, each_back}
-
--- a rule in a table stands at one of its symbols
-pub stored_counted : (n : ℕ) (ws : List (Option ShortWord)) (A a : ℕ) → is_some (stored n ws A a) ≡ true → A < n
-stored_counted n ws A a e = ltb-true A n (and_parts (ltb A n) (letter a) (tested (ltb A n && letter a) _ e)).0
-  where
-    tested : (b : _) (o : Option Word) → is_some (cond b o None) ≡ true → b ≡ true
-    tested true o e = refl
-    tested false o e = e
+use Rattle.norm.proofs.Stored.{stored_counted}
+use Rattle.norm.proofs.Weights.{each_from_places, each_front, each_back}
 
 makes_top : (v : ℕ) (norm : ℕ → ℕ) (o : Option Word) → makes v norm o ≤ suc (suc v)
 makes_top v norm None = omega arith

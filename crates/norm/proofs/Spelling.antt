@@ -11,8 +11,7 @@ use Rattle.norm.specs.Norms.{norms, firsts}
 use Rattle.norm.specs.Certified.{Certified, spelled}
 use Rattle.norm.specs.Skeletons.{rule_words, norm_at, letter_at, first_at}
 use Rattle.norm.specs.declared.skeleton.Skeleton.{Skeleton}
-use Rattle.norm.proofs.Lowering.{each_from_places}
-use Rattle.norm.proofs.Weights.{norms_append, each_append}
+use Rattle.norm.proofs.Weights.{norms_append, each_append, each_from_places}
 
 -- what a skeleton holds is a certificate, and no norm passes its limit
 module _ (k : Skeleton) where

@@ -1,6 +1,5 @@
 -- Sums over the symbols of a word, and what holds of each symbol. Assumes nothing.
-use Rattle.std.proofs.Common.{◌≡◌, ℕ, zero, suc, ◌+◌, ◌<◌, ◌≤◌, min, [], ◌∷◌, ◌++◌, length, get_or, take, fold, sym, refl, ap, ◌∙◌, subst, append_assoc, arith}
-use Rattle.std.proofs.lemmas.List.{take_more}
+use Rattle.std.proofs.Common.{◌≡◌, ℕ, zero, suc, ◌+◌, ◌<◌, ◌≤◌, min, [], ◌∷◌, ◌++◌, length, get_or, fold, sym, refl, ap, ◌∙◌, append_assoc, arith}
 use Rattle.grammar.specs.Meaning.{Word, Input, Each}
 use Rattle.norm.specs.Norms.{norms, firsts}
 
@@ -34,6 +33,11 @@ pub each_at : (P : ℕ → Type 0) (w : Word) (i d : ℕ) → i < length w → E
 each_at P [] i d h e = absurd (omega arith)
 each_at P (A ∷ w) zero d h e = e.0
 each_at P (A ∷ w) (suc i) d h e = each_at P w i d (omega arith) e.1
+
+-- and back
+pub each_from_places : (P : ℕ → Type 0) (w : Word) → ((k : ℕ) → k < length w → P (get_or w k 0)) → Each P w
+each_from_places P [] h = tt
+each_from_places P (A ∷ w) h = (h 0 (omega arith), each_from_places P w (λ k l. h (suc k) (omega arith)))
 
 -- the norm of a word, added up symbol by symbol to a limit
 pub norms_fold : (norm : ℕ → ℕ) (top : ℕ) (w : Word) (k : ℕ) → k ≤ top → fold (λ s B. min (s + norm B) top) k w ≡ min (k + norms norm w) top

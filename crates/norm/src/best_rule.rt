@@ -2,7 +2,7 @@ use crate::measure::NO_INPUT;
 
 // The best rule of a symbol: the least that a rule makes of the symbol's measure, and the least letter
 // of such a rule.
-#[derive(Clone, Copy, Drop)]
+#[derive(Clone, Copy)]
 pub struct BestRule {
     pub measure: u8,
     pub letter: u8,

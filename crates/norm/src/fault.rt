@@ -1,7 +1,7 @@
 // What can be wrong with norms.
 
 // A symbol that the norms refuse.
-#[derive(Clone, Copy, Debug, PartialEq, Drop)]
+#[derive(Clone, Copy, Debug, PartialEq, Eq)]
 pub enum NormFault {
     // The smallest symbol that takes no input.
     NoInput(u8),

@@ -3,11 +3,10 @@
 -- The idea: the normal form of a symbol is a word of symbols that have no row, and not the empty one; so some symbol has no row.
 --
 -- Assumes nothing.
-use Rattle.std.proofs.Common.{◌≡◌, ℕ, zero, suc, ◌+◌, ◌<◌, ◌≤◌, [], ◌∷◌, Some, None, Option, sym, refl, ap, ◌∙◌, arith}
+use Rattle.std.proofs.Common.{◌≡◌, ℕ, zero, suc, ◌<◌, ◌≤◌, [], ◌∷◌, Some, None, Option, sym, ap, ◌∙◌, arith}
 use native.Mathlib.Decide.{ℕ_discrete}
 use Rattle.tally.specs.Group.{Group}
 use Rattle.grammar.specs.Meaning.{Word, Weighted, Each, Below}
-use Rattle.norm.specs.Norms.{norms}
 use Rattle.norm.proofs.Weights.{each_append}
 use Rattle.rows.specs.Sheets.{Sheet, unweighed, Normal, normal_nil, normal_keep, normal_put, Ranked, tell, marked}
 use Rattle.rows.proofs.Normals.{Filled, normal_plain, normal_filled, row_shaped, rows_filled, ranked_total}

@@ -3,7 +3,7 @@
 -- The idea: no two rules have one place, so what holds of the rules visited so far stays when the next is put in.
 --
 -- Assumes nothing.
-use Rattle.std.proofs.Common.{◌≡◌, ℕ, ◌+◌, ◌<◌, true, false, ◌&&◌, ltb, leb, ◌⊎◌, List, length, get_or, set, is_some, Some, None, Option, sym, refl, ap, ◌∙◌, subst, inl, inr, ⊎_elim, arith, length-set, get_or-set_other, get_or-set_same, ltb-false, ltb-true, leb-false, leb-true}
+use Rattle.std.proofs.Common.{◌≡◌, ℕ, ◌+◌, ◌<◌, true, false, ◌&&◌, ltb, leb, ◌⊎◌, List, length, get_or, set, is_some, Some, None, Option, sym, refl, ap, ◌∙◌, subst, inl, inr, ⊎_elim, arith, length-set, get_or-set_other, get_or-set_same, ltb-false, ltb-true, leb-false}
 use Rattle.std.proofs.lemmas.Bool.{cases_Bool, cases_eq, cond-true, cond-false, and_parts, and_cases}
 use Rattle.std.specs.Option.{option_map}
 use Rattle.tally.specs.Group.{Group}
@@ -13,15 +13,13 @@ use Rattle.norm.specs.Words.{words_of, body}
 use Rattle.grammar.specs.Places.{index}
 use Rattle.norm.specs.Tabled.{held, stored}
 use Rattle.norm.specs.declared.short_word.ShortWord.{ShortWord}
+use Rattle.norm.proofs.Stored.{letter_true}
 use Rattle.norm.proofs.Weights.{each_at}
 use Rattle.survey.specs.Refusals.{Sized, Fine, BadRule, Sooner, Refused, bad_rule}
 use Rattle.survey.specs.Laws.{TakenUp}
 use Rattle.survey.specs.declared.fault.GrammarFault.{GrammarFault}
 
--- a letter, told by its test
-pub letter_true : (a : ℕ) → letter a ≡ true → Letter a
-letter_true a e = let h = and_parts (leb 65 a) (leb a 90) e in (leb-true 65 a h.0, leb-true a 90 h.1)
-
+-- no letter, told by its test
 pub letter_false : (a : ℕ) → letter a ≡ false → ¬ Letter a
 letter_false a e h = ⊎_elim (λ d. let x = leb-false 65 a d in omega arith) (λ d. let x = leb-false a 90 d in omega arith) (and_cases (leb 65 a) (leb a 90) e)
 

@@ -20,7 +20,8 @@ use Rattle.norm.specs.Skeletons.{letter_at}
 use Rattle.norm.proofs.Spelling.{skeleton_certified}
 use Rattle.survey.specs.Refusals.{Within}
 use Rattle.survey.specs.Surveyed.{weigh, words_in, surveyed, norm_in, first_in}
-use Rattle.survey.specs.WellSurveyed.{stored_tested, surveyed_closed, surveyed_wellformed}
+use Rattle.norm.proofs.Stored.{stored_tested}
+use Rattle.survey.specs.WellSurveyed.{surveyed_closed, surveyed_wellformed}
 use Rattle.survey.specs.Laws.{Surveys, TakenUp}
 use Rattle.survey.specs.declared.table.Survey.{Survey}
 use Rattle.survey.proofs.Weighing.{words_same}

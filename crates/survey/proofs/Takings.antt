@@ -9,8 +9,7 @@ use Rattle.grammar.specs.Meaning.{Word, Weighted, Meaning, Below, word_of}
 use Rattle.norm.specs.Tabled.{held}
 use Rattle.norm.specs.Words.{words_of}
 use Rattle.norm.specs.declared.short_word.ShortWord.{ShortWord}
-use Rattle.norm.proofs.Lowering.{each_from_places}
-use Rattle.norm.proofs.Weights.{each_at}
+use Rattle.norm.proofs.Weights.{each_at, each_from_places}
 use Rattle.survey.specs.Refusals.{Fine, BadRule, strays, max_rule}
 use Rattle.survey.specs.declared.fault.GrammarFault.TheVariants.{StraySymbol}
 

@@ -2,11 +2,11 @@
 use Rattle.std.proofs.Common.{◌≡◌, ℕ, zero, suc, ◌<◌, true, List, [], ◌∷◌, length, is_some, Some, None, Option, sym, refl, ap, ◌∙◌, ap₂, arith}
 use Rattle.std.specs.List.{slice_get}
 use Rattle.std.specs.Option.{option_map}
-use Rattle.grammar.specs.Meaning.{Word, word_of, tally_of}
+use Rattle.grammar.specs.Meaning.{Word, word_of}
 use Rattle.grammar.specs.Places.{index}
 use Rattle.norm.specs.Words.{words_of}
 use Rattle.survey.specs.Surveyed.{weigh, words_in, surveyed}
-use Rattle.survey.specs.WellSurveyed.{stored_tested}
+use Rattle.norm.proofs.Stored.{stored_tested}
 use Rattle.survey.specs.declared.table.Survey.{Survey}
 
 -- an element that is there

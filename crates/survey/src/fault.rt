@@ -1,7 +1,7 @@
 // What a grammar can be refused for.
 
 // A fault of the grammar. A letter is told by its byte.
-#[derive(Clone, Copy, Debug, PartialEq, Drop)]
+#[derive(Clone, Copy, Debug, PartialEq, Eq)]
 pub enum GrammarFault {
     // 8: there is no symbol, or more than 32 (the count).
     Count(u8),

@@ -3,33 +3,21 @@ use Rattle.std.proofs.lemmas.Result.{err_from_is_err_and}
 use Rattle.norm.specs.declared.rule_words.RuleWords.{RuleWords}
 use Rattle.survey.specs.Laws.{TakenUp}
 use Rattle.survey.proofs.Holding.{surveys}
-use Rattle.survey.proofs.Verdicts.{one_verdict, unnormed_refused}
+use Rattle.survey.proofs.Verdicts.{unnormed_refused}
 use Rattle.survey.proofs.surveying.survey.Goals as goal
 
-pub returns-in_err-words : goal.returns-in_err-words
-returns-in_err-words g c =
-    let M = g.G.Grammar.meaning c.args.g.now in
-    let p = err_from_is_err_and c.from_residual.result c.from_residual.ensures.1 in
-    record { value = rw (p.1, p.2) c.in_err-words.ensures; law = one_verdict 32 64 g.G.T.Tally.group M }
-
-pub returns-in_err-skeleton : goal.returns-in_err-skeleton
-returns-in_err-skeleton g c =
+pub returns-in_err-skeleton-clause-value : goal.returns-in_err-skeleton-clause-value
+returns-in_err-skeleton-clause-value g c =
     let M = g.G.Grammar.meaning c.args.g.now in
     let t = c.in_ok-words.words in
     let p = err_from_is_err_and c.from_residual-in_err-skeleton.result c.from_residual-in_err-skeleton.ensures.1 in
-    record {
-      value = rw (p.1, p.2) (unnormed_refused 32 64 g.G.T.Tally.group M t.count t.words c.in_ok-words.ensures c.in_err-skeleton.field-0.0 c.in_err-skeleton.ensures);
-      law = one_verdict 32 64 g.G.T.Tally.group M;
-    }
+    rw (p.1, p.2) (unnormed_refused 32 64 g.G.T.Tally.group M t.count t.words c.in_ok-words.ensures c.in_err-skeleton.field-0.0 c.in_err-skeleton.ensures)
 
-pub returns : goal.returns
-returns g c =
+pub returns-clause-value : goal.returns-clause-value
+returns-clause-value g c =
     let M = g.G.Grammar.meaning c.args.g.now in
     let t = c.in_ok-words.words in
     let s = c.in_ok-skeleton.skeleton in
     let same : s.words ≡ t = c.in_ok-skeleton.ensures in
     let up : TakenUp 32 M s.words.count s.words.words = subst (λ (w : RuleWords). TakenUp 32 M w.count w.words) (sym same) c.in_ok-words.ensures in
-    record {
-      value = surveys _ g.G.T.Tally.group M up (λ A a d h l. c.rule_tallies-tallies.ensures.each A a d h l);
-      law = one_verdict 32 64 g.G.T.Tally.group M;
-    }
+    surveys _ g.G.T.Tally.group M up (λ A a d h l. c.rule_tallies-tallies.ensures.each A a d h l)

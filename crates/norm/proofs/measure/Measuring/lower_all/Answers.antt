@@ -2,7 +2,8 @@ use Rattle.std.proofs.Common.{ap, ◌∙◌, subst, inl, inr, arith}
 use Rattle.norm.specs.Words.{body}
 use Rattle.norm.specs.Ruled.{rules_of}
 use Rattle.norm.specs.Measured.{measure, Best}
-use Rattle.norm.proofs.Lowering.{each_from_places, passing_on}
+use Rattle.norm.proofs.Weights.{each_from_places}
+use Rattle.norm.proofs.Lowering.{passing_on}
 use Rattle.norm.proofs.measure.Measuring.lower_all.Goals as goal
 use Rattle.norm.proofs.measure.Measuring.lower_all.Goals.{then-best-self, else-best-self}
 

@@ -2,7 +2,8 @@ use Rattle.std.proofs.Common.{ℕ, ◌<◌, ◌≤◌, subst, arith}
 use Rattle.norm.specs.Ruled.{rules_of}
 use Rattle.norm.specs.Measured.{best_at, norm_in, IsBarren, IsLong}
 use Rattle.norm.specs.Measurings.{measured, IsBest}
-use Rattle.norm.proofs.Settling.{stored_counted, table_norm, table_certified, is_barren, is_long}
+use Rattle.norm.proofs.Stored.{stored_counted}
+use Rattle.norm.proofs.Settling.{table_norm, table_certified, is_barren, is_long}
 use Rattle.norm.proofs.skeleton.Skeleton.new.Goals as goal
 
 pub returns-in-Some : goal.returns-in-Some

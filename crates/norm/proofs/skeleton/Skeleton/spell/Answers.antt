@@ -1,5 +1,4 @@
-use Rattle.std.proofs.Common.{◌≡◌, ℕ, ◌+◌, ◌<◌, ◌≤◌, true, List, [], ◌∷◌, ◌++◌, length, set, is_some, Some, None, Option, sym, ap, ◌∙◌, subst, append-nil, arith, ltb-false}
-use Rattle.std.proofs.lemmas.List.{nil_from_length}
+use Rattle.std.proofs.Common.{◌≡◌, ℕ, ◌+◌, ◌<◌, ◌≤◌, List, ◌∷◌, ◌++◌, length, set, Some, Option, sym, ap, ◌∙◌, subst, append-nil, arith}
 use Rattle.grammar.specs.Meaning.{Word}
 use Rattle.grammar.specs.WordStacks.{held}
 use Rattle.norm.specs.Words.{body}
