@@ -53,7 +53,7 @@ impl<'a> Reader<'a> {
     {
         let count = self.count_within(1, 32)?;
         let body = self.left;
-        for _k in 0..count {
+        for _ in 0..count {
             self.name(self.read_of(body))?;
         }
         Ok(self.read_of(body))
@@ -66,7 +66,7 @@ impl<'a> Reader<'a> {
         let count = self.count_within(0, 2)?;
         let body = self.left;
         let mut before = None;
-        for _k in 0..count {
+        for _ in 0..count {
             before = Some(self.kind(before)?);
         }
         Ok(self.read_of(body))

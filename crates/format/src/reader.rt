@@ -1,7 +1,7 @@
 // A reader of a file's bytes, and its readings of single fields and of words.
 ghost use Rattle.std.specs.Prelude.{◌≡◌, length, ◌-◌, take};
 ghost use Rattle.layout.specs.Laws.{Bytes};
-ghost use Rattle.layout.specs.Reading.{one, within, below, word, ended, place};
+ghost use Rattle.layout.specs.Reading.{one, within, below, word, ended, place, value_of};
 ghost use Rattle.format.specs.Views.{Reads, lent};
 
 use layout::Fault;
@@ -26,17 +26,15 @@ impl<'a> Reader<'a> {
         ensures value { result.now ≡ take (length body.now - length self.now.left.now) body.now }
         ensures bytes { Bytes body.now }
     {
-        body.split_at(body.len().saturating_sub(self.left.len())).0
+        &body[..body.len().saturating_sub(self.left.len())]
     }
 
     // One byte.
     pub(crate) fn byte(&mut self) -> Result<u8, Fault>
         ensures { Reads one self.old result self.new }
     {
-        match self.left.split_off_first() {
-            Some(byte) => Ok(*byte),
-            None => Err(Fault::Short(self.total)),
-        }
+        let byte = self.left.split_off_first();
+        byte.copied().ok_or(Fault::Short(self.total))
     }
 
     // A count or a length from `low` to `high`.
@@ -66,13 +64,24 @@ impl<'a> Reader<'a> {
     }
 
     // `len` symbols below `count`.
+    #[tactic(auto, using(crate::proofs::Items::on_wrong))]
     pub(crate) fn word(&mut self, count: u8, len: u8) -> Result<&'a [u8], Fault>
         ensures { Reads (λ t. word t count len) self.old (lent result) self.new }
     {
         let body = self.left;
-        for _k in 0..len {
+        for _ in 0..len {
             self.symbol_below(count)?;
         }
         Ok(self.read_of(body))
+    }
+
+    // The end: nothing is left.
+    pub(crate) fn end(&self) -> Result<(), Fault>
+        ensures { result ≡ value_of (ended self.now.total tt self.now.left.now) }
+    {
+        if !self.left.is_empty() {
+            return Err(Fault::Trailing(self.place()));
+        }
+        Ok(())
     }
 }

@@ -56,7 +56,7 @@ impl<'a> Reader<'a> {
         let size = self.count_within(0, 31)?;
         let body = self.left;
         let mut before = None;
-        for _k in 0..size {
+        for _ in 0..size {
             before = Some(self.row(count, before)?.symbol);
         }
         Ok(Section {
