@@ -1,9 +1,7 @@
 // The check of a file.
-ghost use Rattle.std.specs.Prelude.{◌≡◌, ◌<◌, length, MatchResult};
 ghost use Rattle.layout.specs.Example.{Examples};
 ghost use Rattle.layout.specs.Laws.{FileLaw, OneContents};
-ghost use Rattle.layout.specs.Reading.{checked, place};
-ghost use Rattle.layout.specs.declared.fault.Fault.TheVariants.{Trailing};
+ghost use Rattle.layout.specs.Reading.{checked};
 ghost use Rattle.format.specs.Views.{Answers};
 
 use crate::file_tally::{FileTally, has_kinds};

@@ -1,4 +1,5 @@
 // The sections of names and of kinds.
+// Each section has its own loop: the clause of one for all would range over types of items, as none can.
 ghost use Rattle.std.specs.Prelude.{◌≡◌, ℕ, List, reverse};
 ghost use Rattle.layout.specs.Reading.{name, kind, names, kinds, absent, named};
 ghost use Rattle.format.specs.Views.{Reads, lent, After};

@@ -1,4 +1,5 @@
 // A reader of a file's bytes, and its readings of single fields and of words.
+// Each field tests its byte itself: one for all, given the test, needs a proof at each, where now there is none.
 ghost use Rattle.std.specs.Prelude.{◌≡◌, length, ◌-◌, take};
 ghost use Rattle.layout.specs.Laws.{Bytes};
 ghost use Rattle.layout.specs.Reading.{one, within, below, word, ended, place, value_of};
@@ -21,7 +22,7 @@ impl<'a> Reader<'a> {
         self.total.saturating_sub(self.left.len())
     }
 
-    // What was read of `body`, which was left before.
+    // What was read of `body`, which was left before; and, for proofs, that `body` is made of bytes.
     pub(crate) fn read_of(&self, body: &'a [u8]) -> &'a [u8]
         ensures value { result.now ≡ take (length body.now - length self.now.left.now) body.now }
         ensures bytes { Bytes body.now }
