@@ -2,7 +2,7 @@
 ghost use Rattle.std.specs.Prelude.{◌≡◌, []};
 ghost use Rattle.layout.specs.Contents.{rule_bytes};
 ghost use Rattle.layout.specs.Reading.{rule, a_letter, rule_count, number, many, rules};
-ghost use Rattle.format.specs.Views.{Reads, After, seen, rule_head, ReadsItems};
+ghost use Rattle.format.specs.Views.{Reads, Behind, seen, rule_head, ReadsItems};
 
 use crate::reader::Reader;
 use crate::row::Section;
@@ -53,7 +53,7 @@ impl<'a> Reader<'a> {
 
     // A rule: a symbol, a letter, after the rule before it, the tally's numbers, a length up to 4 and a word.
     fn rule(&mut self, count: u8, kinds: u8, before: Option<(u8, u8)>) -> Result<(u8, u8), Fault>
-        ensures { After rule_head before (λ xs. Reads (λ t bs. seen rule_head (rule t count kinds xs bs)) self.old result self.new) }
+        ensures { Behind rule_head before (λ xs. Reads (λ t bs. seen rule_head (rule t count kinds xs bs)) self.old result self.new) }
     {
         let place = self.place();
         let symbol = self.symbol_below(count)?;
