@@ -1,4 +1,3 @@
-pub mod Slices
 pub mod Fields
 pub mod Absent
 pub mod Skips

@@ -5,12 +5,13 @@
 -- rules_wrong, rows_wrong  a fault of a section is that of the whole
 --
 -- Assumes nothing.
-use Rattle.std.proofs.Common.{◌≡◌, ℕ, ◌<◌, ◌≤◌, Bool, true, List, [], ◌∷◌, length, Ok, Err, sym, refl, ap, ◌∙◌, arith}
+use Rattle.std.proofs.Common.{◌≡◌, ℕ, ◌≤◌, Bool, true, List, [], ◌∷◌, length, Ok, Err, Result, sym, refl, ap, ◌∙◌}
 use Rattle.layout.specs.Contents.{FileRule, FileRow, Contents}
-use Rattle.layout.specs.Reading.{Reading, then, given, place, names, kinds, same_kinds, rules, rows, ended, whole}
+use Rattle.layout.specs.Reading.{Read, Reading, then, given, names, kinds, same_kinds, rules, rows, ended, whole, value_of}
 use Rattle.layout.specs.declared.fault.Fault.{Fault}
-use Rattle.layout.specs.declared.fault.Fault.TheVariants.{Kinds, Trailing}
+use Rattle.layout.specs.declared.fault.Fault.TheVariants.{Kinds}
 use Rattle.layout.proofs.Sections.{kinds_sound}
+use Rattle.layout.proofs.Steps.{err_same}
 
 abbrev pub contents : List ℕ → List ℕ → List FileRule → List FileRow → Contents
 contents ns fs rs ws = record { names = ns; kinds = fs; rules = rs; rows = ws }
@@ -64,10 +65,10 @@ module _ {total : ℕ} {ks bs ns fs gs : List ℕ} {rs : List FileRule} {a : ℕ
   at_end e = record { goes = w.goes ∙ ap (λ o. then o (λ ws hs. ended total (contents ns fs rs ws) hs)) (ap (λ m. rows m (length ns) gs) (sym at) ∙ e) }
 
 -- where something is left, and where nothing is
-pub ended_more : {X : Type 0} (total : ℕ) (x : X) (hs : List ℕ) → 0 < length hs → ended total x hs ≡ Err (Trailing (place total hs))
-ended_more total x [] h = absurd (omega arith)
-ended_more total x (b ∷ hs) h = refl
+pub ended_more : {X : Type 0} {f : Fault} (total : ℕ) (x : X) (hs : List ℕ) → Err f ≡ value_of (ended total {X = Unit {0}} tt hs) → ended total x hs ≡ Err f
+ended_more total x [] e = cc
+ended_more total x (b ∷ hs) e = let same = err_same e in ap {B = Result (Read _) Fault} Err (sym same)
 
-pub ended_all : {X : Type 0} (total : ℕ) (x : X) (hs : List ℕ) → length hs ≡ 0 → ended total x hs ≡ Ok (record { value = x; rest = [] })
-ended_all total x [] h = refl
-ended_all total x (b ∷ hs) h = absurd (omega arith)
+pub ended_all : {X : Type 0} (total : ℕ) (x : X) (hs : List ℕ) → Ok tt ≡ value_of (ended total {X = Unit {0}} tt hs) → ended total x hs ≡ Ok (record { value = x; rest = [] })
+ended_all total x [] e = refl
+ended_all total x (b ∷ hs) e = cc

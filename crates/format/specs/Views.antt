@@ -5,7 +5,7 @@
 -- ReadsItems enc o r result s the same of a section, whose items lie in the bytes as enc says
 -- lent, lent_row              what is given with the lent bytes read out
 -- newest xs                   the item that was read last, if there is one
--- After head before P         P holds behind any items, the newest first, where `before` is the head of the newest
+-- Behind head before P        P holds behind any items, the newest first, where `before` is the head of the newest
 --
 -- Assumes nothing.
 use Rattle.std.specs.Prelude.{◌≡◌, ℕ, ◌<◌, true, List, [], ◌∷◌, length, Some, None, Ok, Err, Option, Result}
@@ -19,15 +19,17 @@ use Rattle.format.specs.declared.row.Section.{Section}
 use Rattle.format.specs.declared.row.Checked.{Checked}
 use Rattle.layout.specs.declared.fault.Fault.{Fault}
 
+-- what a reader gave, and what is left
 abbrev pub took : {X : Type 0} → Result X Fault → List ℕ → Result (Read X) Fault
 took (Ok x) rest = Ok (record { value = x; rest = rest })
 took (Err f) rest = Err f
 
--- what it knows of the number of all bytes stays
+-- it reads so, and the number of all bytes stays
 pub record Reads {X : Type 0} (o : ℕ → Reading X) (r : Reader) (result : Result X Fault) (s : Reader) : Type 0 where
   pub read : took result s.left.now ≡ o r.total r.left.now
   pub total : s.total ≡ r.total
 
+-- a lent list, read out
 abbrev pub lent : Result (Bor (List ℕ)) Fault → Result (List ℕ) Fault
 lent (Ok xs) = Ok xs.now
 lent (Err f) = Err f
@@ -38,8 +40,8 @@ newest [] = None
 newest (x ∷ xs) = Some x
 
 -- what holds behind the items before
-abbrev pub After : {X H : Type 0} → (X → H) → Option H → (List X → Type 0) → Type 0
-After head before P = (xs : List _) → option_map head (newest xs) ≡ before → P xs
+abbrev pub Behind : {X H : Type 0} → (X → H) → Option H → (List X → Type 0) → Type 0
+Behind head before P = (xs : List _) → option_map head (newest xs) ≡ before → P xs
 
 -- what a reading gives, seen through f
 abbrev pub seen : {X Y : Type 0} → (X → Y) → Result (Read X) Fault → Result (Read Y) Fault
@@ -57,6 +59,7 @@ row_head r = r.symbol
 abbrev pub row_of : Row → FileRow
 row_of r = record { symbol = r.symbol; word = r.word.now }
 
+-- a lent row, read out
 abbrev pub lent_row : Result Row Fault → Result FileRow Fault
 lent_row (Ok r) = Ok (row_of r)
 lent_row (Err f) = Err f
@@ -73,10 +76,12 @@ abbrev pub GaveItems : {X : Type 0} → (X → List ℕ) → Result (Read (List 
 GaveItems enc o (Ok section) rest = ReadItems enc o section rest
 GaveItems enc o (Err f) rest = o ≡ Err f
 
+-- it reads a section so, and the number of all bytes stays
 pub record ReadsItems {X : Type 0} (enc : X → List ℕ) (o : ℕ → Reading (List X)) (r : Reader) (result : Result Section Fault) (s : Reader) : Type 0 where
   pub read : GaveItems enc (o r.total r.left.now) result s.left.now
   pub total : s.total ≡ r.total
 
+-- the same where a function hands on what is left
 abbrev pub TookItems : {X : Type 0} → (X → List ℕ) → Result (Read (List X)) Fault → Result (Section × Bor (List ℕ)) Fault → Type 0
 TookItems enc o (Ok p) = ReadItems enc o p.0 p.1.now
 TookItems enc o (Err f) = o ≡ Err f

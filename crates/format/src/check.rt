@@ -1,25 +1,13 @@
 // The check of a file.
-ghost use Rattle.std.specs.Prelude.{◌≡◌, ◌<◌, length, MatchResult};
 ghost use Rattle.layout.specs.Example.{Examples};
 ghost use Rattle.layout.specs.Laws.{FileLaw, OneContents};
-ghost use Rattle.layout.specs.Reading.{checked, place};
-ghost use Rattle.layout.specs.declared.fault.Fault.TheVariants.{Trailing};
+ghost use Rattle.layout.specs.Reading.{checked};
 ghost use Rattle.format.specs.Views.{Answers};
 
 use crate::file_tally::{FileTally, has_kinds};
 use crate::reader::Reader;
 use crate::row::Checked;
 use layout::Fault;
-
-// Judges that nothing is left.
-fn all_read(reader: &Reader<'_>) -> Result<(), Fault>
-    ensures { MatchResult result (λ _. length reader.now.left.now ≡ 0) (λ f. (0 < length reader.now.left.now) × (f ≡ Trailing (place reader.now.total reader.now.left.now))) }
-{
-    if !reader.left.is_empty() {
-        return Err(Fault::Trailing(reader.place()));
-    }
-    Ok(())
-}
 
 // The parts of a file, or the first fault in reading order.
 fn parts<T: FileTally>(bytes: &[u8]) -> Result<Checked<'_>, Fault>
@@ -37,7 +25,7 @@ fn parts<T: FileTally>(bytes: &[u8]) -> Result<Checked<'_>, Fault>
     let count = names.len() as u8;
     let rules = reader.rules(count, kinds.len() as u8)?;
     let rows = reader.rows(count)?;
-    all_read(&reader)?;
+    reader.end()?;
     Ok(Checked {
         names,
         kinds,

@@ -1,7 +1,8 @@
 // The sections of names and of kinds.
+// Each section has its own loop: the clause of one for all would range over types of items, as none can.
 ghost use Rattle.std.specs.Prelude.{◌≡◌, ℕ, List, reverse};
 ghost use Rattle.layout.specs.Reading.{name, kind, names, kinds, absent, named};
-ghost use Rattle.format.specs.Views.{Reads, lent, After};
+ghost use Rattle.format.specs.Views.{Reads, lent, Behind};
 
 use crate::reader::Reader;
 use layout::Fault;
@@ -36,7 +37,7 @@ impl<'a> Reader<'a> {
 
     // A kind, above the one before it.
     fn kind(&mut self, before: Option<u8>) -> Result<u8, Fault>
-        ensures { After (λ (x : ℕ). x) before (λ xs. Reads (λ t. kind t xs) self.old result self.new) }
+        ensures { Behind (λ (x : ℕ). x) before (λ xs. Reads (λ t. kind t xs) self.old result self.new) }
     {
         let place = self.place();
         let kind = self.byte()?;
@@ -53,7 +54,7 @@ impl<'a> Reader<'a> {
     {
         let count = self.count_within(1, 32)?;
         let body = self.left;
-        for _k in 0..count {
+        for _ in 0..count {
             self.name(self.read_of(body))?;
         }
         Ok(self.read_of(body))
@@ -66,7 +67,7 @@ impl<'a> Reader<'a> {
         let count = self.count_within(0, 2)?;
         let body = self.left;
         let mut before = None;
-        for _k in 0..count {
+        for _ in 0..count {
             before = Some(self.kind(before)?);
         }
         Ok(self.read_of(body))

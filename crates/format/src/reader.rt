@@ -1,12 +1,13 @@
 // A reader of a file's bytes, and its readings of single fields and of words.
+// Each field tests its byte itself: one for all, given the test, needs a proof at each, where now there is none.
 ghost use Rattle.std.specs.Prelude.{◌≡◌, length, ◌-◌, take};
 ghost use Rattle.layout.specs.Laws.{Bytes};
-ghost use Rattle.layout.specs.Reading.{one, within, below, word, ended, place};
+ghost use Rattle.layout.specs.Reading.{one, within, below, word, ended, place, value_of};
 ghost use Rattle.format.specs.Views.{Reads, lent};
 
 use layout::Fault;
 
-// How many bytes there are in all, and those that are left to be read. After a fault no more is read.
+// How many bytes there are in all, and those that are left to be read. Behind a fault no more is read.
 #[derive(Drop)]
 pub(crate) struct Reader<'a> {
     pub(crate) total: usize,
@@ -21,22 +22,20 @@ impl<'a> Reader<'a> {
         self.total.saturating_sub(self.left.len())
     }
 
-    // What was read of `body`, which was left before.
+    // What was read of `body`, which was left before; and, for proofs, that `body` is made of bytes.
     pub(crate) fn read_of(&self, body: &'a [u8]) -> &'a [u8]
         ensures value { result.now ≡ take (length body.now - length self.now.left.now) body.now }
         ensures bytes { Bytes body.now }
     {
-        body.split_at(body.len().saturating_sub(self.left.len())).0
+        &body[..body.len().saturating_sub(self.left.len())]
     }
 
     // One byte.
     pub(crate) fn byte(&mut self) -> Result<u8, Fault>
         ensures { Reads one self.old result self.new }
     {
-        match self.left.split_off_first() {
-            Some(byte) => Ok(*byte),
-            None => Err(Fault::Short(self.total)),
-        }
+        let byte = self.left.split_off_first();
+        byte.copied().ok_or(Fault::Short(self.total))
     }
 
     // A count or a length from `low` to `high`.
@@ -66,13 +65,24 @@ impl<'a> Reader<'a> {
     }
 
     // `len` symbols below `count`.
+    #[tactic(auto, using(crate::proofs::Items::on_wrong))]
     pub(crate) fn word(&mut self, count: u8, len: u8) -> Result<&'a [u8], Fault>
         ensures { Reads (λ t. word t count len) self.old (lent result) self.new }
     {
         let body = self.left;
-        for _k in 0..len {
+        for _ in 0..len {
             self.symbol_below(count)?;
         }
         Ok(self.read_of(body))
+    }
+
+    // The end: nothing is left.
+    pub(crate) fn end(&self) -> Result<(), Fault>
+        ensures { result ≡ value_of (ended self.now.total tt self.now.left.now) }
+    {
+        if !self.left.is_empty() {
+            return Err(Fault::Trailing(self.place()));
+        }
+        Ok(())
     }
 }

@@ -3,7 +3,7 @@ ghost use Rattle.std.specs.Prelude.{◌≡◌};
 ghost use Rattle.layout.specs.Contents.{row_bytes};
 ghost use Rattle.layout.specs.Laws.{RowsLaw};
 ghost use Rattle.layout.specs.Reading.{row, rows};
-ghost use Rattle.format.specs.Views.{Reads, lent_row, row_head, After, Judged, ReadsItems, TookItems};
+ghost use Rattle.format.specs.Views.{Reads, lent_row, row_head, Behind, Judged, ReadsItems, TookItems};
 
 use crate::reader::Reader;
 use crate::row::{Row, Section};
@@ -12,7 +12,7 @@ use layout::Fault;
 impl<'a> Reader<'a> {
     // Judges the symbol of the row that comes next: below `count`, and after the row before it.
     fn judge_symbol(&self, symbol: u8, count: u8, before: Option<u8>) -> Result<(), Fault>
-        ensures { After row_head before (λ xs. Judged self.now.total count xs symbol self.now.left.now result) }
+        ensures { Behind row_head before (λ xs. Judged self.now.total count xs symbol self.now.left.now result) }
     {
         if symbol >= count {
             return Err(Fault::Symbol(self.place()));
@@ -26,12 +26,13 @@ impl<'a> Reader<'a> {
     // A row: its symbol, after the one before it, its length 1 to 64 and that many symbols. A wrong
     // symbol is told before the bytes are found to end.
     fn row(&mut self, count: u8, before: Option<u8>) -> Result<Row<'a>, Fault>
-        ensures { After row_head before (λ xs. Reads (λ t. row t count xs) self.old (lent_row result) self.new) }
+        ensures { Behind row_head before (λ xs. Reads (λ t. row t count xs) self.old (lent_row result) self.new) }
     {
         match self.left {
             [symbol, length, rest @ ..] => {
                 self.judge_symbol(*symbol, count, before)?;
                 if !(1..=64).contains(length) {
+                    // The length lies just before the rest.
                     return Err(Fault::Limit(self.total.saturating_sub(rest.len() + 1)));
                 }
                 self.left = rest;
@@ -56,7 +57,7 @@ impl<'a> Reader<'a> {
         let size = self.count_within(0, 31)?;
         let body = self.left;
         let mut before = None;
-        for _k in 0..size {
+        for _ in 0..size {
             before = Some(self.row(count, before)?.symbol);
         }
         Ok(Section {

@@ -2,7 +2,7 @@
 ghost use Rattle.std.specs.Prelude.{◌≡◌, []};
 ghost use Rattle.layout.specs.Contents.{rule_bytes};
 ghost use Rattle.layout.specs.Reading.{rule, a_letter, rule_count, number, many, rules};
-ghost use Rattle.format.specs.Views.{Reads, After, seen, rule_head, ReadsItems};
+ghost use Rattle.format.specs.Views.{Reads, Behind, seen, rule_head, ReadsItems};
 
 use crate::reader::Reader;
 use crate::row::Section;
@@ -38,20 +38,22 @@ impl<'a> Reader<'a> {
     }
 
     // Passes over the numbers of a tally with `kinds` kinds, four bytes each.
+    #[tactic(auto, using(crate::proofs::Skips::skips_short, crate::proofs::Skips::skips_all))]
     fn skip_numbers(&mut self, kinds: u8) -> Result<(), Fault>
         ensures { Reads (λ t bs. seen (λ _. tt) (many t (number t) kinds [] bs)) self.old result self.new }
     {
-        let size = kinds as usize * 4;
-        if self.left.len() < size {
-            return Err(Fault::Short(self.total));
+        match self.left.split_at_checked(kinds as usize * 4) {
+            Some((_, rest)) => {
+                self.left = rest;
+                Ok(())
+            }
+            None => Err(Fault::Short(self.total)),
         }
-        self.left = self.left.split_at(size).1;
-        Ok(())
     }
 
     // A rule: a symbol, a letter, after the rule before it, the tally's numbers, a length up to 4 and a word.
     fn rule(&mut self, count: u8, kinds: u8, before: Option<(u8, u8)>) -> Result<(u8, u8), Fault>
-        ensures { After rule_head before (λ xs. Reads (λ t bs. seen rule_head (rule t count kinds xs bs)) self.old result self.new) }
+        ensures { Behind rule_head before (λ xs. Reads (λ t bs. seen rule_head (rule t count kinds xs bs)) self.old result self.new) }
     {
         let place = self.place();
         let symbol = self.symbol_below(count)?;
@@ -72,7 +74,7 @@ impl<'a> Reader<'a> {
         let size = self.rule_count()?;
         let body = self.left;
         let mut before = None;
-        for _k in 0..size {
+        for _ in 0..size {
             before = Some(self.rule(count, kinds, before)?);
         }
         Ok(Section {

@@ -6,5 +6,5 @@ use Rattle.format.proofs.Fields.{Bytewise}
 use Rattle.format.proofs.Items.{On}
 use Rattle.format.proofs.reader.Reader.kinds.Given as goal
 
-abbrev pub invariant-loop-k : goal.invariant-loop-k
-invariant-loop-k l = On kind l.fn.self.total l.count l.body (λ xs left. Bytewise l.body xs left × (option_map (λ (x : ℕ). x) (newest xs) ≡ l.before)) l._k l.self
+abbrev pub invariant-loop : goal.invariant-loop
+invariant-loop l = On kind l.fn.self.total l.count l.body (λ xs left. Bytewise l.body xs left × (option_map (λ (x : ℕ). x) (newest xs) ≡ l.before)) l.counter l.self

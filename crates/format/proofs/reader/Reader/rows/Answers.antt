@@ -7,15 +7,15 @@ use Rattle.format.proofs.Fields.{single_within, front_of}
 use Rattle.format.proofs.Items.{on_more, on_all}
 use Rattle.format.proofs.reader.Reader.rows.Goals as goal
 
-pub loop-k-preserved : goal.loop-k-preserved
-loop-k-preserved c =
-    let w = c.loop-k.invariant in
+pub loop-preserved : goal.loop-preserved
+loop-preserved c =
+    let w = c.loop.invariant in
     let got = c.in_ok-row.ensures w.items w.known in
-    on_more w c.loop-k-test.true (sym got.read) got.total refl
+    on_more w c.loop-test.true (sym got.read) got.total refl
 
 pub returns : goal.returns
 returns c =
-    let w = c.loop-k.invariant in
+    let w = c.loop.invariant in
     let t = c.args.self.now.total in
     let bs = c.args.self.now.left.now in
     let s = c.count_within.new.self.left.now in
@@ -23,13 +23,13 @@ returns c =
     let whole = on_all w (omega arith) in
     let reads = then_ok _ (λ n. many t (row t c.args.count) n []) _ _ size ∙ whole.0 in
     let used = sym (single_within t 0 31 bs _ size) ∙ (rows_sound t bs c.args.count _ reads).1 in
-    let body : s ≡ joined row_bytes (reverse w.items) ++ c.loop-k.self.left.now = cc in
+    let body : s ≡ joined row_bytes (reverse w.items) ++ c.loop.self.left.now = cc in
     record {
       read = record {
         items = reverse w.items;
         reads = reads;
         count = sym whole.1;
-        bytes = c.read_of.ensures.value ∙ front_of s _ c.loop-k.self.left.now body;
+        bytes = c.read_of.ensures.value ∙ front_of s _ c.loop.self.left.now body;
       };
       total = w.same;
     }
