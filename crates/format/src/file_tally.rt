@@ -71,7 +71,7 @@ impl FileTally for Untallied {
     }
 }
 
-// A tally that is one number below 2^32, and all of that number is of one kind.
+// A tally that is just one number, of one kind.
 pub trait OneNumber: Tally {
     // What the number counts.
     const KIND: Kind;
