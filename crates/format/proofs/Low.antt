@@ -3,7 +3,7 @@
 -- joined_same      two ways to encode items that agree on each
 -- counted_same, rule_same, row_same, low_same   what fits, or is legal, has the bytes of its encoding
 -- canonical                                     legal contents are written as they are encoded, and read back
--- two_same, four_same                           a number's bytes as they are cut out of it
+-- two_same         a count's bytes as they are cut out of it
 -- joined_map       two ways to encode items seen through a function
 -- puts_contents    the sections, one behind the other
 --
@@ -47,9 +47,6 @@ canonical c h = record { written = low_same c h; reads_back = ap value_of (reads
 
 pub two_same : (n : ℕ) → n < 2 ^ 16 → n / 256 % 256 ∷ n % 256 ∷ [] ≡ two n
 two_same n h = ap (λ m. m ∷ n % 256 ∷ []) (omega arith)
-
-pub four_same : (n : ℕ) → n < 2 ^ 32 → n / 16777216 % 256 ∷ n / 65536 % 256 ∷ n / 256 % 256 ∷ n % 256 ∷ [] ≡ four n
-four_same n h = ap (λ m. m ∷ n / 65536 % 256 ∷ n / 256 % 256 ∷ n % 256 ∷ []) (omega arith)
 
 -- items that are seen through g
 joined_map : {X Y : Type 0} (f : Y → List ℕ) (g : X → Y) (xs : List X) → joined (λ x. f (g x)) xs ≡ joined f (map g xs)

@@ -1,30 +1,20 @@
 -- Writes into a buffer, one behind the other.
 --
--- wrote_as         the same bytes, written otherwise
--- wrote_none       no bytes
 -- after o at xs    a buffer after a write at a place with room: its length, and a write behind
 -- wrote_then       a write, and one behind it
--- puts_none, puts_as, puts_then   the same of a writer
+-- puts_as          the same bytes, written otherwise
+-- puts_then        a write by a writer, and one behind it
 -- puts_item        the items up to a place, and the one there
 -- no_room, room    bytes that were counted by a write into nothing, which fit a buffer or not
 --
 -- Assumes nothing.
-use Rattle.std.proofs.Common.{◌≡◌, ℕ, ◌+◌, ◌^◌, ◌<◌, ◌≤◌, cond, List, [], ◌∷◌, ◌++◌, length, get_or, take, drop, Some, None, Option, sym, refl, ap, ◌∙◌, subst, ap₂, append_assoc, append-nil, add-zero, arith, length-append, length-drop}
+use Rattle.std.proofs.Common.{◌≡◌, ℕ, ◌+◌, ◌^◌, ◌<◌, ◌≤◌, cond, List, [], ◌∷◌, ◌++◌, length, get_or, take, drop, Some, None, Option, sym, ap, ◌∙◌, subst, ap₂, append_assoc, arith, length-append, length-drop}
 use borrow.Author.Tests.{le-true, lt-false}
-use Rattle.std.proofs.lemmas.List.{length-take-le, take-append-drop, take_at, take_more, drop_at, drop-drop}
+use Rattle.std.proofs.lemmas.List.{length-take-le, take_at, take_more, drop_at, drop-drop}
 use Rattle.layout.specs.Contents.{joined}
 use Rattle.format.specs.Lent.{Wrote, Puts, filled_len, filled}
 use Rattle.format.specs.declared.encode.Writer.{Writer}
 use Rattle.layout.proofs.Ordered.{joined_push}
-
-pub wrote_as : {o p bs cs : List ℕ} {at next : ℕ} → bs ≡ cs → Wrote o at bs next p → Wrote o at cs next p
-wrote_as {o} {p} {bs} {cs} {at} {next} e w = let P : List ℕ → Type 0 = λ l. Wrote o at l next p in subst P e w
-
-pub wrote_none : (o : List ℕ) (at : ℕ) → at < 2 ^ 64 → Wrote o at [] at o
-wrote_none o at h = record {
-  place = omega arith;
-  bytes = λ _. sym (ap₂ (λ x n. x ++ drop n o) (append-nil (take at o)) (add-zero at) ∙ take-append-drop at o);
-}
 
 after : List ℕ → ℕ → List ℕ → List ℕ
 after o at xs = take at o ++ xs ++ drop (at + length xs) o
@@ -60,9 +50,6 @@ wrote_then {o} {p} {q} {xs} {ys} {at} {next} {last} h w v =
           let more : next + length ys ≤ length p = omega (arith, ap length is, length_after o at xs room) in
           v.bytes more ∙ ap₂ (λ (r : List ℕ) n. after r n ys) is here ∙ after_after o at xs room ys;
     }
-
-pub puts_none : (w : Writer) → w.at < 2 ^ 64 → Puts w [] w
-puts_none w h = record { same_buffer = refl; wrote = wrote_none w.out.now w.at h }
 
 pub puts_as : {w v : Writer} {bs cs : List ℕ} → bs ≡ cs → Puts w bs v → Puts w cs v
 puts_as {w} {v} e p = subst (λ (l : List ℕ). Puts w l v) e p

@@ -59,8 +59,8 @@ module _ {T : Type 0} (R : Numbered T) where
   abbrev pub only_made : ℕ → ℕ → T
   only_made a b = R.of (a % 2 ^ 32) (omega arith)
 
-  pub only_lossless : (kind : Kind) → Lossless (only_kinds kind) only_numbers only_made
-  only_lossless kind = record {
+  pub only_lossless : (k : ℕ) → Lossless (k ∷ []) only_numbers only_made
+  only_lossless k = record {
     size = λ _. refl;
     small = λ x. (R.fits x, tt);
     back = λ _ x. R.same _ _ (R.reads _ _ ∙ residue_same (R.number x) (R.fits x));

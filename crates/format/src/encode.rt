@@ -19,7 +19,7 @@ trait Encode {
     // Its bytes.
     ghost bytes: { Self → List ℕ };
 
-    fn put(&self, to: &mut Writer<'_>)
+    fn write_to(&self, to: &mut Writer<'_>)
         ensures { Puts to.old (bytes self.now) to.new };
 }
 
@@ -49,7 +49,7 @@ impl Writer<'_> {
         ensures { Puts self.old (joined T.Encode.bytes items.now) self.new }
     {
         for item in items {
-            item.put(self);
+            item.write_to(self);
         }
     }
 }
@@ -58,7 +58,7 @@ impl Writer<'_> {
 impl Encode for u32 {
     ghost bytes = { four };
 
-    fn put(&self, to: &mut Writer<'_>) {
+    fn write_to(&self, to: &mut Writer<'_>) {
         to.put(&self.to_be_bytes());
     }
 }
@@ -67,7 +67,7 @@ impl Encode for u32 {
 impl Encode for RuleEntry<'_> {
     ghost bytes = { λ rule. low_rule (rule_of rule) };
 
-    fn put(&self, to: &mut Writer<'_>) {
+    fn write_to(&self, to: &mut Writer<'_>) {
         to.put(&[self.symbol, self.letter]);
         to.put_all(self.numbers);
         to.put_counted(self.word);
@@ -78,7 +78,7 @@ impl Encode for RuleEntry<'_> {
 impl Encode for Row<'_> {
     ghost bytes = { λ row. low_row (row_of row) };
 
-    fn put(&self, to: &mut Writer<'_>) {
+    fn write_to(&self, to: &mut Writer<'_>) {
         to.put(&[self.symbol]);
         to.put_counted(self.word);
     }
@@ -88,7 +88,7 @@ impl Encode for Row<'_> {
 impl Encode for FileContents<'_> {
     ghost bytes = { λ contents. low_encode (contents_of contents) };
 
-    fn put(&self, to: &mut Writer<'_>) {
+    fn write_to(&self, to: &mut Writer<'_>) {
         to.put_counted(self.names);
         to.put_counted(self.kinds);
         let count = (self.rules.len() % 65_536) as u16;
@@ -104,7 +104,7 @@ fn put_contents(out: &mut [u8], contents: &FileContents<'_>) -> usize
     ensures { Wrote out.old 0 (low_encode (contents_of contents.now)) result out.new }
 {
     let mut to = Writer { out, at: 0 };
-    contents.put(&mut to);
+    contents.write_to(&mut to);
     to.at
 }
 

@@ -4,6 +4,7 @@ ghost use Rattle.format.specs.Kinds.{Lossless, untallied_kinds, untallied_number
 ghost use Rattle.format.specs.Kinds.{foot_numbered, last_numbered, odd_numbered};
 ghost use Rattle.format.specs.Kinds.{only_kinds, only_numbers, only_made, only_lossless};
 ghost use Rattle.format.specs.Kinds.{pair_kinds, pair_numbers, pair_made, pair_lossless};
+ghost use Rattle.layout.specs.Kinds.{byte_of};
 ghost use Rattle.layout.specs.Reading.{same_kinds};
 ghost use Rattle.layout.specs.declared.kind.Kind.{Kind};
 ghost use Rattle.layout.specs.declared.kind.Kind.TheVariants.{Foot, Last, OddOnes};
@@ -70,7 +71,7 @@ impl FileTally for Untallied {
     }
 }
 
-// A tally that is one number below 2^32, and all of that number is of one kind.
+// A tally that is just one number, of one kind.
 pub trait OneNumber: Tally {
     // What the number counts.
     const KIND: Kind;
@@ -145,7 +146,7 @@ impl<T: OneNumber> FileTally for T {
 
     ghost made = { only_made T.OneNumber.numbered };
 
-    ghost lossless = { only_lossless T.OneNumber.numbered T.OneNumber.KIND };
+    ghost lossless = { only_lossless T.OneNumber.numbered (byte_of T.OneNumber.KIND) };
 
     fn kind_count() -> u8 {
         1

@@ -10,6 +10,8 @@ mod reader;
 mod row;
 mod rows;
 mod rules;
+#[cfg(test)]
+mod tests;
 
 pub use check::check_file;
 pub use contents::{FileContents, RuleEntry};

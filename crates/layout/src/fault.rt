@@ -1,7 +1,7 @@
 // What the file check can find wrong.
 
 // The layer that a fault belongs to. The shops call a grammar a book and a comparer a bench.
-#[derive(Clone, Copy, Debug, PartialEq, Drop)]
+#[derive(Clone, Copy, Debug, PartialEq, Eq)]
 pub enum Layer {
     File,
     Grammar,
@@ -9,7 +9,7 @@ pub enum Layer {
 }
 
 // A fault of the file. Places count from 0.
-#[derive(Clone, Copy, Debug, PartialEq, Drop)]
+#[derive(Clone, Copy, Debug, PartialEq, Eq)]
 pub enum Fault {
     // 1: the bytes end inside a field or before the next one (the number of bytes).
     Short(usize),
@@ -28,7 +28,7 @@ pub enum Fault {
 }
 
 // A fault as it is told: its number, its layer, and its two numbers.
-#[derive(Clone, Copy, Debug, PartialEq, Drop)]
+#[derive(Clone, Copy, Debug, PartialEq, Eq)]
 pub struct FaultCode {
     pub number: u8,
     pub layer: Layer,

@@ -6,7 +6,7 @@ use std::error::Error;
 use std::fmt;
 
 // What a number of a tally counts, as the byte of its kind says: 1, 2, 3.
-#[derive(Clone, Copy, Debug, PartialEq, Eq, PartialOrd, Ord, Drop)]
+#[derive(Clone, Copy, Debug, PartialEq, Eq, PartialOrd, Ord)]
 pub enum Kind {
     Foot,
     Last,
@@ -14,7 +14,7 @@ pub enum Kind {
 }
 
 // A byte that stands for no kind.
-#[derive(Clone, Copy, Debug, PartialEq, Eq, Drop)]
+#[derive(Clone, Copy, Debug, PartialEq, Eq)]
 pub struct UnknownKind(pub u8);
 
 impl TryFrom<u8> for Kind {

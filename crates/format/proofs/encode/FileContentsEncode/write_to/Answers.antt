@@ -1,7 +1,7 @@
 use Rattle.std.proofs.Common.{◌%◌, length, ◌∙◌, arith}
 use Rattle.format.proofs.Low.{two_same, puts_contents}
 use Rattle.format.proofs.Writes.{puts_as}
-use Rattle.format.proofs.encode.FileContentsEncode.put.Goals as goal
+use Rattle.format.proofs.encode.FileContentsEncode.write_to.Goals as goal
 
 pub returns : goal.returns
 returns c =

@@ -1,6 +1,6 @@
 use Rattle.std.proofs.Common.{◌^◌, ◌<◌, length, arith}
 use Rattle.format.proofs.Writes.{puts_then}
-use Rattle.format.proofs.encode.RuleEntryEncode.put.Goals as goal
+use Rattle.format.proofs.encode.RuleEntryEncode.write_to.Goals as goal
 
 pub returns : goal.returns
 returns c =

@@ -1,0 +1,66 @@
+use crate::*;
+use layout::Fault;
+use tally::{FootMm, LastMm};
+
+// A rule of one number.
+fn rule<'a>(symbol: u8, letter: u8, numbers: &'a [u32], word: &'a [u8]) -> RuleEntry<'a> {
+    RuleEntry {
+        symbol,
+        letter,
+        numbers,
+        word,
+    }
+}
+
+// Two names, foot lengths, four rules and a row: 43 bytes, which the check reads back.
+#[test]
+fn small_file_there_and_back(rt: HostRuntime) {
+    let rules = [
+        rule(0, b'L', &[270], &[]),
+        rule(0, b'S', &[0], &[0, 0]),
+        rule(1, b'L', &[270], &[]),
+        rule(1, b'S', &[0], &[0, 1]),
+    ];
+    let rows = [Row {
+        symbol: 1,
+        word: &[0],
+    }];
+    let contents = FileContents {
+        names: b"bc",
+        kinds: &[1],
+        rules: &rules,
+        rows: &rows,
+    };
+    let mut out = [9; 43];
+    assert_eq!(rt; encode_into(&contents, &mut out), Some(43));
+    assert!(rt; out.starts_with(b"\x02bc\x01\x01\x00\x04\x00L"));
+    assert!(rt; out.ends_with(&[1, 1, 1, 0]));
+    match check_file::<FootMm>(&out) {
+        Ok(file) => assert_eq!(rt;
+            (file.names, file.rules.count, file.rows.count),
+            (&b"bc"[..], 4, 1)
+        ),
+        Err(_) => assert!(rt; false),
+    }
+    match check_file::<LastMm>(&out) {
+        Ok(_) => assert!(rt; false),
+        Err(fault) => assert_eq!(rt; fault, Fault::Kinds),
+    }
+}
+
+// A buffer of one byte less stays as it was; of one more, its last byte does.
+#[test]
+fn what_has_no_room_stays(rt: HostRuntime) {
+    let contents = FileContents {
+        names: b"b",
+        kinds: &[],
+        rules: &[],
+        rows: &[],
+    };
+    let mut short = [9; 5];
+    assert_eq!(rt; encode_into(&contents, &mut short), None);
+    assert_eq!(rt; short, [9; 5]);
+    let mut long = [9; 7];
+    assert_eq!(rt; encode_into(&contents, &mut long), Some(6));
+    assert_eq!(rt; long, [1, b'b', 0, 0, 0, 0, 9]);
+}
