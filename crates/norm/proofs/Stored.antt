@@ -5,7 +5,8 @@ use Rattle.std.specs.Option.{option_map}
 use Rattle.grammar.specs.Meaning.{Word, Letter}
 use Rattle.grammar.specs.Listed.{letter}
 use Rattle.norm.specs.Words.{body}
-use Rattle.norm.specs.Tabled.{held, index, stored}
+use Rattle.grammar.specs.Places.{index}
+use Rattle.norm.specs.Tabled.{held, stored}
 use Rattle.norm.specs.declared.short_word.ShortWord.{ShortWord}
 
 -- a letter, told by its test
