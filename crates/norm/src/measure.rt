@@ -55,10 +55,9 @@ impl Measuring {
     fn rule(&self, symbol: u8, letter: u8) -> u8
         ensures { result ≡ makes 64 (measured self.now) (rules self.now symbol letter) }
     {
-        match self.words.word(symbol, letter) {
-            Some(word) => self.through(word.as_slice()),
-            None => NO_INPUT,
-        }
+        self.words
+            .word(symbol, letter)
+            .map_or(NO_INPUT, |word| self.through(word.as_slice()))
     }
 
     // The best rule of a symbol.
@@ -77,8 +76,7 @@ impl Measuring {
 
     // The best rules of all symbols.
     pub(crate) fn best_rules(&self) -> [BestRule; 32]
-        ensures size { length result ≡ 32 }
-        ensures each { (A : ℕ) → A < 32 → IsBest self.now A (best_at result A) }
+        ensures { (A : ℕ) → A < 32 → IsBest self.now A (best_at result A) }
     {
         std::array::from_fn(|symbol| self.best_rule(symbol as u8))
     }
@@ -91,6 +89,7 @@ impl Measuring {
         ensures settled { result ≡ false → IsSettled self.new }
     {
         let mut fell = false;
+        // No iter_mut over the measures: a best rule reads all of them.
         for symbol in 0..self.words.count {
             let best = self.best_rule(symbol).measure;
             if best < self.measures[symbol as usize] {

@@ -12,7 +12,7 @@ returns-in-Some c =
     let t = s.result.words in
     subst (λ x. IsBarren x.count (rules_of x) c.in-Some.symbol) s.ensures.words
     (is_barren 64 t.count t.words t.known (measured s.result) s.ensures.reached s.ensures.settled c.best_rules-best_rules.result
-    (λ A h. let few = t.few in c.best_rules-best_rules.ensures.each A (omega arith)) c.in-Some.symbol c.in-Some.ensures)
+    (λ A h. let few = t.few in c.best_rules-best_rules.ensures A (omega arith)) c.in-Some.symbol c.in-Some.ensures)
 
 pub returns-in-Some-first_above : goal.returns-in-Some-first_above
 returns-in-Some-first_above c =
@@ -20,14 +20,14 @@ returns-in-Some-first_above c =
     let t = s.result.words in
     subst (λ x. IsLong 64 x.count (rules_of x) c.in-Some-first_above.symbol) s.ensures.words
     (is_long 64 t.count t.words t.known (measured s.result) s.ensures.reached s.ensures.settled c.best_rules-best_rules.result
-    (λ A h. let few = t.few in c.best_rules-best_rules.ensures.each A (omega arith)) c.in-Some-first_above.symbol c.in_default.ensures c.in-Some-first_above.ensures)
+    (λ A h. let few = t.few in c.best_rules-best_rules.ensures A (omega arith)) c.in-Some-first_above.symbol c.in_default.ensures c.in-Some-first_above.ensures)
 
 pub invariant_of-result : goal.invariant_of-result
 invariant_of-result c =
     let s = c.settled-measuring in
     let t = s.result.words in
     let bs = c.best_rules-best_rules.result in
-    let best : (A : ℕ) → A < t.count → IsBest s.result A (best_at bs A) = λ A h. let few = t.few in c.best_rules-best_rules.ensures.each A (omega arith) in
+    let best : (A : ℕ) → A < t.count → IsBest s.result A (best_at bs A) = λ A h. let few = t.few in c.best_rules-best_rules.ensures A (omega arith) in
     let small = c.in_default-first_above.ensures in
     let C = table_certified 64 t.count t.words t.known (measured s.result) s.ensures.reached s.ensures.settled bs best in
     let within : (A : ℕ) → A < t.count → norm_in bs A ≤ 64 = λ A h. let e = table_norm 64 t.count t.words t.known (measured s.result) s.ensures.reached s.ensures.settled bs best A h in let l = small A h in omega arith in
