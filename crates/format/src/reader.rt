@@ -7,7 +7,7 @@ ghost use Rattle.format.specs.Views.{Reads, lent};
 
 use layout::Fault;
 
-// How many bytes there are in all, and those that are left to be read. Behind a fault no more is read.
+// How many bytes there are in all, and those that are left to be read. After a fault no more is read.
 #[derive(Drop)]
 pub(crate) struct Reader<'a> {
     pub(crate) total: usize,
