@@ -1,9 +1,9 @@
-use Rattle.std.proofs.Common.{◌≡◌, ℕ, List, [], ◌∷◌, Err, rules}
+use Rattle.std.proofs.Common.{◌≡◌, [], ◌∷◌, Err, rules}
 use Rattle.layout.specs.Reading.{checked}
 use Rattle.layout.specs.declared.fault.Fault.TheVariants.{Kinds}
 use Rattle.layout.proofs.Any.{one_fits}
 use Rattle.format.proofs.Items.{bytes_of}
-use Rattle.inspect.proofs.Answered.{Tried, as_stated, tried_more, tried_last}
+use Rattle.inspect.proofs.Answered.{as_stated, tried_more, tried_last}
 use Rattle.inspect.proofs.kinds.answer_any.Goals as goal
 
 -- the six others were refused for their kinds
