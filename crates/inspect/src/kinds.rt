@@ -11,7 +11,8 @@ use tally::{FootMm, LastMm, OddOnes, Pair, Untallied};
 
 // The check's answer, unless it is that the file has other kinds than the tally T.
 fn check_as<T: FileTally>(bytes: &[u8]) -> Option<Result<Checked<'_>, Fault>>
-    ensures { MatchOption result (checked T.FileTally.kinds bytes.now ≡ Err Kinds) (λ a. Answers (checked_any bytes.now) a) }
+    ensures own { MatchOption result (checked T.FileTally.kinds bytes.now ≡ Err Kinds) (λ a. Answers (checked T.FileTally.kinds bytes.now) a) }
+    ensures any { MatchOption result (checked T.FileTally.kinds bytes.now ≡ Err Kinds) (λ a. Answers (checked_any bytes.now) a) }
 {
     match check_file::<T>(bytes) {
         Ok(file) => Some(Ok(file)),

@@ -1,9 +1,9 @@
-use Rattle.std.proofs.Common.{◌≡◌, ℕ, List, [], ◌∷◌, Err, rules}
+use Rattle.std.proofs.Common.{◌≡◌, [], ◌∷◌, Err, rules}
 use Rattle.layout.specs.Reading.{checked}
 use Rattle.layout.specs.declared.fault.Fault.TheVariants.{Kinds}
 use Rattle.layout.proofs.Any.{one_fits}
 use Rattle.format.proofs.Items.{bytes_of}
-use Rattle.inspect.proofs.Answered.{Tried, as_stated, tried_more, tried_last}
+use Rattle.inspect.proofs.Answered.{as_stated, tried_more, tried_last}
 use Rattle.inspect.proofs.kinds.answer_any.Goals as goal
 
 -- the six others were refused for their kinds
@@ -16,7 +16,7 @@ returns c =
     let odd : Type 0 = checked (3 ∷ []) bs ≡ Err Kinds in
     let foot_last : Type 0 = checked (1 ∷ 2 ∷ []) bs ≡ Err Kinds in
     let foot_odd : Type 0 = checked (1 ∷ 3 ∷ []) bs ≡ Err Kinds in
-    let two_by = tried_more bs none foot _ c.check_as.result c.or_else.result c.check_as.ensures c.or_else.ensures in
+    let two_by = tried_more bs none foot _ c.check_as.result c.or_else.result c.check_as.ensures.any c.or_else.ensures in
     let two = two_by (λ e. search rules) in
     let three_by = tried_more bs (none × foot) last _ c.or_else.result c.or_else-2.result two c.or_else-2.ensures in
     let three = three_by (λ e. search rules) in

@@ -4,9 +4,11 @@ use Rattle.inspect.proofs.Answered.{as_stated}
 use Rattle.inspect.proofs.kinds.check_as.Goals as goal
 
 pub returns-in-Ok : goal.returns-in-Ok
-returns-in-Ok g c = let h = c.in-Ok.ensures.value in as_stated g.T.FileTally.kinds c.args.bytes.now (Ok c.in-Ok.file) h (λ e. ok_err (sym h.1 ∙ e))
+returns-in-Ok g c =
+    let h = c.in-Ok.ensures.value in
+    record { own = h; any = as_stated g.T.FileTally.kinds c.args.bytes.now (Ok c.in-Ok.file) h (λ e. ok_err (sym h.1 ∙ e)) }
 
 pub returns-in-Err : goal.returns-in-Err
 returns-in-Err g c =
     let h = c.in-Err.ensures.value in
-    as_stated g.T.FileTally.kinds c.args.bytes.now (Err c.in-Err.fault) h (λ e. let d = err_same (sym h ∙ e) in search (rules, d))
+    record { own = h; any = as_stated g.T.FileTally.kinds c.args.bytes.now (Err c.in-Err.fault) h (λ e. let d = err_same (sym h ∙ e) in search (rules, d)) }
