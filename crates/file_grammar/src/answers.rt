@@ -50,6 +50,7 @@ impl<'a, T: FileTally> Grammar for FileGrammar<'a, T> {
         self.table.rule(symbol, letter).is_some()
     }
 
+    // 0, and 255 below: a question's answer where there is no rule is fixed.
     fn rule_len(&self, symbol: u8, letter: u8) -> u8 {
         self.table.rule(symbol, letter).map_or(0, |rule| rule.len())
     }

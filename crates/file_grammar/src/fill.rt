@@ -14,6 +14,7 @@ use grammar::{PLACES, index_of};
 fn put<'a>(rules: &mut [Option<&'a [u8]>; PLACES], symbol: u8, letter: u8, rule: &'a [u8])
     ensures { rules.new ≡ slice_set rules.old (index symbol letter) (Some rule.entry) }
 {
+    // By index: with `get_mut` the proof did not close.
     let at = index_of(symbol, letter);
     if at < PLACES {
         rules[at] = Some(rule);

@@ -11,7 +11,8 @@ pub(crate) struct RuleBytes<'a> {
 }
 
 impl<'a> RuleBytes<'a> {
-    // The byte at a place; 0 beyond the end.
+    // The byte at a place; 0 beyond the end. No Option: in a checked file it is there, and what a table means
+    // is told for any bytes.
     fn byte(&self, at: usize) -> u8
         ensures { result ≡ slice_index self.now.bytes.now at }
     {
@@ -73,7 +74,7 @@ impl<'a> RuleBytes<'a> {
         self.word().len() as u8
     }
 
-    // The symbol of the word at a place; 255 beyond its end.
+    // The symbol of the word at a place; 255 beyond its end, as the question about a symbol answers.
     pub(crate) fn symbol(&self, at: u8) -> u8
         ensures { result ≡ slice_index_or (capped (word_of self.now.kinds self.now.bytes.now)) at 255 }
     {

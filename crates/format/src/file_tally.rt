@@ -106,6 +106,7 @@ impl OneNumber for FootMm {
     }
 }
 
+// A twin of the impl for foot lengths, as the two lengths are two structs.
 impl OneNumber for LastMm {
     const KIND: Kind = Kind::Last;
 

@@ -5,7 +5,7 @@ ghost use Rattle.layout.specs.Reading.{name, kind, names, kinds, absent, named};
 ghost use Rattle.format.specs.Views.{Reads, lent, Behind};
 
 use crate::reader::Reader;
-use layout::Fault;
+use layout::{Fault, Kind};
 
 // Whether the byte may be a name: a to z, 0 to 9.
 fn is_name(byte: u8) -> bool
@@ -35,13 +35,13 @@ impl<'a> Reader<'a> {
         }
     }
 
-    // A kind, above the one before it.
+    // A kind, above the one before it. Its byte is handed on, since kinds are in the order of their bytes.
     fn kind(&mut self, before: Option<u8>) -> Result<u8, Fault>
         ensures { Behind (λ (x : ℕ). x) before (λ xs. Reads (λ t. kind t xs) self.old result self.new) }
     {
         let place = self.place();
         let kind = self.byte()?;
-        if (1..=3).contains(&kind) && before < Some(kind) {
+        if Kind::try_from(kind).is_ok() && before < Some(kind) {
             Ok(kind)
         } else {
             Err(Fault::Unallowed(place))

@@ -24,7 +24,8 @@ pub use too_long::InputTooLong;
 pub use twin::{Twin, raise};
 pub use word_stack::WordStack;
 
-// A grammar of any make. It answers five questions, each as a function of its one meaning.
+// A grammar of any make. It answers five questions, each as a function of its one meaning. The numbers
+// for what is not there (0, 255 and the tally zero) are fixed for every make, so there is no Option.
 pub trait Grammar {
     type T: Tally;
 

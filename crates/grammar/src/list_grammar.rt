@@ -28,7 +28,7 @@ impl RuleWord {
         self.length.min(RECORD_SYMBOLS)
     }
 
-    // The symbol at a place, 255 beyond those that count.
+    // The symbol at a place, 255 beyond those that count, as the question about a symbol answers.
     fn symbol(self, at: u8) -> u8
         ensures { result ≡ slice_index_or (written self) at 255 }
     {
@@ -93,6 +93,7 @@ impl<T: Tally> Grammar for ListGrammar<T> {
         self.rule(symbol, letter).is_some()
     }
 
+    // 0, and 255 below: a question's answer where there is no rule is fixed.
     fn rule_len(&self, symbol: u8, letter: u8) -> u8 {
         self.rule(symbol, letter).map_or(0, |rule| rule.word.len())
     }

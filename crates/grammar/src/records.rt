@@ -1,6 +1,7 @@
 // A rule as it is written down in a list grammar.
 
-// Room for five symbols; a length above five counts as five.
+// Room for five symbols; a length above five counts as five. No ArrayVec: any byte may stand as the
+// length, which is fixed for records.
 #[derive(Clone, Copy, Debug)]
 pub struct RuleWord {
     pub length: u8,

@@ -21,7 +21,7 @@ pub fn raise(symbol: u8, by: u8) -> u8
     symbol.saturating_add(by)
 }
 
-// A symbol in the first grammar's words; 255 if it is not below the first's count.
+// A symbol in the first grammar's words; 255, as is fixed for twins, if it is not below the first's count.
 fn keep(symbol: u8, count: u8) -> u8
     ensures { result ≡ (if nat_lt symbol count then symbol else 255) }
 {
@@ -81,6 +81,7 @@ impl<G: Grammar, H: Grammar<T = G::T>> Grammar for Twin<G, H> {
         }
     }
 
+    // 0, and 255 below: a question's answer where there is no rule is fixed.
     fn rule_len(&self, symbol: u8, letter: u8) -> u8 {
         match self.part(symbol) {
             Some(Part::First(own)) => self.first.rule_len(own, letter),

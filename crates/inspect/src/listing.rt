@@ -31,7 +31,7 @@ impl<'a, R: Print> Listing<'a, R> {
         let count = file.kinds.len();
         self.part(1, format_args!("{count} kinds"))?;
         for kind in file.kinds {
-            self.part(1, Kind::try_from(*kind)?)?;
+            self.part(1, Kind::try_from(*kind).unwrap_or(Kind::OddOnes))?;
         }
         Ok(())
     }

@@ -16,7 +16,7 @@ impl ShortWord {
         &self.symbols[0..self.len as usize]
     }
 
-    // The symbol at a place; 255 beyond the end.
+    // The symbol at a place; 255 beyond the end, as the question about a symbol answers.
     pub fn symbol(&self, at: u8) -> u8
         ensures { result ≡ slice_index_or (held self.now) at 255 }
     {

@@ -36,6 +36,7 @@ impl<T: Tally> Grammar for Survey<T> {
         self.rule_word(symbol, letter).is_some()
     }
 
+    // 0, and 255 below: a question's answer where there is no rule is fixed.
     fn rule_len(&self, symbol: u8, letter: u8) -> u8 {
         self.rule_word(symbol, letter).map_or(0, |word| word.len)
     }
@@ -45,6 +46,7 @@ impl<T: Tally> Grammar for Survey<T> {
             .map_or(255, |word| word.symbol(at))
     }
 
+    // A match: a closure that gives a value of a parameter's type gets no proof.
     fn rule_tally(&self, symbol: u8, letter: u8) -> T {
         match self.rule_word(symbol, letter) {
             Some(_) => self

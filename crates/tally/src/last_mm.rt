@@ -1,4 +1,5 @@
-// Last lengths: millimetres modulo 2^32, a group of their own.
+// Last lengths: millimetres modulo 2^32, a group of their own. A twin of foot lengths and no parameter of
+// one type, since two structs with laws of their own are fixed, so that the two never meet.
 #![tactic(auto, using(crate::specs::Makes::last_same))]
 
 ghost use Rattle.std.specs.Prelude.{◌≡◌, ◌^◌, ◌<◌, Decides};

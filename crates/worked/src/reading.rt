@@ -10,7 +10,7 @@ use std::alloc::Global;
 // The names of the symbols, in their order.
 const NAMES: [u8; 7] = *b"bcdefkq";
 
-// The symbol of a name.
+// The symbol of a name. No TryFrom: a symbol is a number, as its name is.
 fn symbol_of(name: u8) -> Option<u8>
     ensures { result ≡ named name }
 {
