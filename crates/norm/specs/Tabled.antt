@@ -4,7 +4,7 @@
 -- stored n ws A a  the word at A and a, in a table ws for n symbols
 --
 -- Assumes nothing.
-use Rattle.std.specs.Prelude.{ℕ, ◌+◌, ◌-◌, ◌*◌, cond, ◌&&◌, List, take, None, Option, nat_lt, slice_index_or}
+use Rattle.std.specs.Prelude.{ℕ, cond, ◌&&◌, List, take, None, Option, nat_lt, slice_index_or}
 use Rattle.std.specs.Option.{option_map}
 use Rattle.grammar.specs.Meaning.{Word}
 use Rattle.grammar.specs.Listed.{letter}

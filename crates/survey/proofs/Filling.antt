@@ -46,9 +46,6 @@ module _ {X : Type 0} (P : ℕ → ℕ → X → Type 0) where
     pub size : length xs ≡ 832
     pub each : (A a : ℕ) (d : X) → Letter a → Sooner A a B b → P A a (get_or xs (index A a) d)
 
-  pub placed_none : (xs : List X) → length xs ≡ 832 → Placed xs 0 65
-  placed_none xs s = record { size = s; each = λ A a d l h. absurd (sooner_first A a l h) }
-
   pub placed_more : (xs : List X) (B b : ℕ) (x : X) → Placed xs B b → B < 32 → Letter b → P B b x → Placed (set xs (index B b) x) B (b + 1)
   placed_more xs B b x f small l p = record {
     size = length-set xs (index B b) x ∙ f.size;

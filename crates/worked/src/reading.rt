@@ -39,7 +39,7 @@ fn cut(bytes: &[u8], byte: u8) -> Option<(&[u8], &[u8])>
 }
 
 // The first line of a text, without its line feed, and what follows.
-fn next_line(text: &[u8]) -> (&[u8], &[u8])
+pub fn next_line(text: &[u8]) -> (&[u8], &[u8])
     ensures value { pair_now result ≡ first_line text.now }
     ensures bound { 0 < length text.now → length result.1.now < length text.now }
 {
