@@ -10,7 +10,7 @@ use format::{FileTally, check_file};
 use grammar::Grammar;
 use std::marker::PhantomData;
 
-// A grammar over the bytes of a file: its rules lie in the bytes, and a table has their places.
+// A grammar over the bytes of a file: its rules lie in the bytes, and a table lends each of them.
 #[derive(Drop)]
 pub struct FileGrammar<'a, T> {
     table: RuleTable<'a>,
@@ -61,7 +61,7 @@ impl<'a, T: FileTally> Grammar for FileGrammar<'a, T> {
             .map_or(255, |rule| rule.symbol(at))
     }
 
-    // No `map_or_else`: a closure whose result is of a parameter's type gets no proof.
+    // Tried: with `map_or_else` the closure, which asks the parameter's trait, gets no proof.
     fn rule_tally(&self, symbol: u8, letter: u8) -> T {
         match self.table.rule(symbol, letter) {
             Some(rule) => T::of_numbers(rule.number(0), rule.number(1)),

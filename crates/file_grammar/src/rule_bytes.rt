@@ -41,7 +41,7 @@ impl<'a> RuleBytes<'a> {
         self.behind(at + 1 + usize::from(self.byte(at)))
     }
 
-    // The number at a place, four bytes, high first; 0 beyond the kinds.
+    // The number at a place, four bytes, high first; 0 beyond the kinds, as a tally is made of two numbers.
     pub(crate) fn number(&self, at: u8) -> u32
         ensures { result ≡ slice_index (numbers_of self.now.kinds (drop 2 self.now.bytes.now)) at }
     {
@@ -49,12 +49,13 @@ impl<'a> RuleBytes<'a> {
             return 0;
         }
         let from = 4 * usize::from(at) + 2;
-        u32::from_be_bytes([
+        let bytes = [
             self.byte(from),
             self.byte(from + 1),
             self.byte(from + 2),
             self.byte(from + 3),
-        ])
+        ];
+        u32::from_be_bytes(bytes)
     }
 
     // The word, at most four symbols.

@@ -19,6 +19,7 @@ use Rattle.tally.specs.declared.pair.Pair.{Pair}
 use Rattle.layout.specs.Contents.{All}
 use Rattle.layout.specs.Kinds.{byte_of}
 use Rattle.layout.specs.declared.kind.Kind.{Kind}
+use Rattle.layout.specs.declared.kind.Kind.TheVariants as kinds
 
 pub record Lossless {T : Type 0} (ks : List ℕ) (numbers : T → List ℕ) (made : ℕ → ℕ → T) : Type 0 where
   pub size : (x : T) → length (numbers x) ≡ length ks
@@ -75,6 +76,16 @@ last_numbered = record { number = λ x. x.mm; of = last_of; fits = λ x. x.fits;
 
 abbrev pub odd_numbered : Numbered OddOnes
 odd_numbered = record { number = λ x. x.bits; of = odd_of; fits = λ x. x.fits; reads = λ n h. refl; same = odd_same }
+
+-- the three makes with only one number are lossless
+pub foot_lossless : Lossless (only_kinds kinds.Foot) (only_numbers foot_numbered) (only_made foot_numbered)
+foot_lossless = only_lossless foot_numbered (byte_of kinds.Foot)
+
+pub last_lossless : Lossless (only_kinds kinds.Last) (only_numbers last_numbered) (only_made last_numbered)
+last_lossless = only_lossless last_numbered (byte_of kinds.Last)
+
+pub odd_lossless : Lossless (only_kinds kinds.OddOnes) (only_numbers odd_numbered) (only_made odd_numbered)
+odd_lossless = only_lossless odd_numbered (byte_of kinds.OddOnes)
 
 abbrev pub pair_kinds : List ℕ → List ℕ → List ℕ
 pair_kinds ks ls = ks ++ ls

@@ -10,7 +10,7 @@ pub struct RuleEntry<'a> {
     pub word: &'a [u8],
 }
 
-// The contents of a file, lent.
+// The contents of a file, lent. Kinds are bytes, as contents that are not legal are written too.
 #[derive(Clone, Copy)]
 pub struct FileContents<'a> {
     pub names: &'a [u8],

@@ -31,7 +31,8 @@ pub trait FileTally: Tally {
     fn kind_count() -> u8
         ensures { result ≡ min 255 (length kinds) };
 
-    // The kind at a place below 255, if there is one. A byte, as a tally may have kinds that no file holds.
+    // The kind at a place below 255, if there is one. A byte: a make of another crate may have a kind
+    // that is none of `Kind`, and is refused for it.
     fn kind(at: u8) -> Option<u8>
         ensures { at < 255 → result ≡ slice_get kinds at };
 

@@ -1,4 +1,4 @@
-// The file: its check, its canonical bytes, and the grammar that it holds.
+// The file: its check, its canonical bytes, and tallies in files.
 #![tactic(auto)]
 
 mod check;

@@ -1,5 +1,6 @@
 // The sections of names and of kinds.
-// Each section has its own loop: the clause of one for all would range over types of items, as none can.
+// Each section here and of rules and rows has its own loop: one for all would take each reading as a trait
+// with ghost members and an impl, which is no plainer than three lines.
 ghost use Rattle.std.specs.Prelude.{◌≡◌, ℕ, List, reverse};
 ghost use Rattle.layout.specs.Reading.{name, kind, names, kinds, absent, named};
 ghost use Rattle.format.specs.Views.{Reads, lent, Behind};
@@ -35,7 +36,8 @@ impl<'a> Reader<'a> {
         }
     }
 
-    // A kind, above the one before it. Its byte is handed on, since kinds are in the order of their bytes.
+    // A kind, above the one before it; None comes before every Some. Its byte is handed on, since the section
+    // is lent as bytes.
     fn kind(&mut self, before: Option<u8>) -> Result<u8, Fault>
         ensures { Behind (λ (x : ℕ). x) before (λ xs. Reads (λ t. kind t xs) self.old result self.new) }
     {

@@ -1,5 +1,6 @@
 // A reader of a file's bytes, and its readings of single fields and of words.
-// Each field tests its byte itself: one for all, given the test, needs a proof at each, where now there is none.
+// Each field, here and in the sections, tests its byte itself: one for all, given the test, was tried and needs
+// a proof at each, where now there is none.
 ghost use Rattle.std.specs.Prelude.{◌≡◌, length, ◌-◌, take};
 ghost use Rattle.layout.specs.Laws.{Bytes};
 ghost use Rattle.layout.specs.Reading.{one, within, below, word, ended, place, value_of};
@@ -51,7 +52,7 @@ impl<'a> Reader<'a> {
         }
     }
 
-    // A symbol below `count`.
+    // A symbol below `count`. No field: a reader of names has no count yet, and offers have no names.
     pub(crate) fn symbol_below(&mut self, count: u8) -> Result<u8, Fault>
         ensures { Reads (λ t. below t count) self.old result self.new }
     {

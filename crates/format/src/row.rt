@@ -12,7 +12,7 @@ pub struct Section<'a> {
     pub bytes: &'a [u8],
 }
 
-// A file that was checked, part by part.
+// A file that was checked, part by part. Kinds are lent as they lie in the file, as bytes.
 #[derive(Clone, Copy, Debug, PartialEq)]
 pub struct Checked<'a> {
     pub names: &'a [u8],

@@ -17,6 +17,7 @@ impl<'a> Reader<'a> {
         if symbol >= count {
             return Err(Fault::Symbol(self.place()));
         }
+        // None comes before every Some.
         if before >= Some(symbol) {
             return Err(Fault::Order(self.place()));
         }

@@ -58,6 +58,7 @@ impl<'a> Reader<'a> {
         let place = self.place();
         let symbol = self.symbol_below(count)?;
         let letter = self.letter()?;
+        // None comes before every Some.
         if before >= Some((symbol, letter)) {
             return Err(Fault::Order(place));
         }

@@ -25,7 +25,8 @@ pub use twin::{Twin, raise};
 pub use word_stack::WordStack;
 
 // A grammar of any make. It answers five questions, each as a function of its one meaning. The numbers
-// for what is not there (0, 255 and the tally zero) are fixed for every make, so there is no Option.
+// for what is not there (0, 255 and the tally zero) are fixed for every make, so there is no Option. So are the symbol
+// and the letter, apart: tables and faults have them apart too.
 pub trait Grammar {
     type T: Tally;
 

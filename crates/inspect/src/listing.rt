@@ -30,6 +30,7 @@ impl<'a, R: Print> Listing<'a, R> {
         }
         let count = file.kinds.len();
         self.part(1, format_args!("{count} kinds"))?;
+        // A checked file has no other kinds than the three.
         for kind in file.kinds {
             self.part(1, Kind::try_from(*kind).unwrap_or(Kind::OddOnes))?;
         }

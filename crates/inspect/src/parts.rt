@@ -15,7 +15,7 @@ pub struct Rule<'a> {
 
 impl<'a> Rule<'a> {
     // How many bytes it has: the three of symbol, letter and length, and those of the numbers and the word.
-    pub fn size(&self) -> usize {
+    pub(crate) fn size(&self) -> usize {
         3usize
             .saturating_add(self.numbers.len())
             .saturating_add(self.word.len())

@@ -6,7 +6,7 @@ use std::error::Error;
 use std::fmt;
 
 // What a number of a tally counts, as the byte of its kind says: 1, 2, 3.
-#[derive(Clone, Copy, Debug, PartialEq, Eq, PartialOrd, Ord)]
+#[derive(Clone, Copy, Debug, PartialEq, Eq)]
 pub enum Kind {
     Foot,
     Last,

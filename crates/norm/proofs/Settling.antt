@@ -122,7 +122,7 @@ certified_same v n R norm same letter counted h C = record {
     body_same A a = norms_same n norm same h (body (R A a)) (C.known A a)
 
 -- the same for a table of words with its measures and best rules
-module _ (v n : ℕ) (ws : List (Option ShortWord)) (known : (A a k : ℕ) → k < length (body (stored n ws A a)) → get_or (body (stored n ws A a)) k 0 < n)
+module _ (v n : ℕ) (ws : List (Option (ShortWord 4))) (known : (A a k : ℕ) → k < length (body (stored n ws A a)) → get_or (body (stored n ws A a)) k 0 < n)
     (norm : ℕ → ℕ) (reached : Reached v n (stored n ws) norm) (settled : Settled v n (stored n ws) norm)
     (bs : List BestRule) (best : (A : ℕ) → A < n → Best v (stored n ws) norm A (norm_in bs A) (letter_in bs A)) where
   below : (A a : ℕ) → Below n (body (stored n ws A a))

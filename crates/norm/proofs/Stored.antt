@@ -14,7 +14,7 @@ pub letter_true : (a : ℕ) → letter a ≡ true → Letter a
 letter_true a e = let h = and_parts (nat_le 65 a) (nat_le a 90) e in (leb-true 65 a h.0, leb-true a 90 h.1)
 
 -- what is found in a table passed its test
-pub stored_tested : (n : ℕ) (ws : List (Option ShortWord)) (A a : ℕ) → is_some (stored n ws A a) ≡ true → (A < n) × Letter a
+pub stored_tested : (n : ℕ) (ws : List (Option (ShortWord 4))) (A a : ℕ) → is_some (stored n ws A a) ≡ true → (A < n) × Letter a
 stored_tested n ws A a e =
     let p = and_parts (nat_lt A n) (letter a) (tested (nat_lt A n && letter a) (option_map held (get_or ws (index A a) None)) e) in
     (ltb-true A n p.0, letter_true a p.1)
@@ -23,14 +23,14 @@ stored_tested n ws A a e =
     tested true o e = refl
     tested false o e = e
 
-pub stored_counted : (n : ℕ) (ws : List (Option ShortWord)) (A a : ℕ) → is_some (stored n ws A a) ≡ true → A < n
+pub stored_counted : (n : ℕ) (ws : List (Option (ShortWord 4))) (A a : ℕ) → is_some (stored n ws A a) ≡ true → A < n
 stored_counted n ws A a e = (stored_tested n ws A a e).0
 
 -- and has at most 4 symbols
-pub body_short : (n : ℕ) (ws : List (Option ShortWord)) (A a : ℕ) → length (body (stored n ws A a)) ≤ 4
+pub body_short : (n : ℕ) (ws : List (Option (ShortWord 4))) (A a : ℕ) → length (body (stored n ws A a)) ≤ 4
 body_short n ws A a = tested (nat_lt A n && letter a)
   where
-    found : (o : Option ShortWord) → length (body (option_map held o)) ≤ 4
+    found : (o : Option (ShortWord 4)) → length (body (option_map held o)) ≤ 4
     found None = omega arith
     found (Some w) = let h = w.within in simp length-take (omega arith)
 

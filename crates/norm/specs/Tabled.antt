@@ -12,8 +12,8 @@ use Rattle.grammar.specs.Places.{index}
 use Rattle.norm.specs.Words.{Words}
 use Rattle.norm.specs.declared.short_word.ShortWord.{ShortWord}
 
-abbrev pub held : ShortWord → Word
+abbrev pub held : {N : ℕ} → ShortWord N → Word
 held w = take w.len w.symbols
 
-abbrev pub stored : ℕ → List (Option ShortWord) → Words
+abbrev pub stored : ℕ → List (Option (ShortWord 4)) → Words
 stored n ws A a = cond (nat_lt A n && letter a) (option_map held (slice_index_or ws (index A a) None)) None

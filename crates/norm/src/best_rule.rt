@@ -8,7 +8,8 @@ pub struct BestRule {
     pub letter: u8,
 }
 
-// Where there is no rule.
+// Where there is no rule: the measure says so, and the letter is no letter. No Option, as measures are
+// compared with this one.
 pub(crate) const NO_RULE: BestRule = BestRule {
     measure: NO_INPUT,
     letter: 0,

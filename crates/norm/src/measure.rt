@@ -60,7 +60,7 @@ impl Measuring {
             .map_or(NO_INPUT, |word| self.through(word.as_slice()))
     }
 
-    // The best rule of a symbol.
+    // The best rule of a symbol. No `min_by_key`: where no rule has a measure there is no letter either.
     fn best_rule(&self, symbol: u8) -> BestRule
         ensures { IsBest self.now symbol result }
     {

@@ -18,14 +18,16 @@ impl Skeleton {
             .unwrap_or(NO_RULE)
     }
 
-    // The norm of a symbol; above the limit where there is no such symbol.
+    // The norm of a symbol; above the limit where there is no such symbol. No Option: norms of any words are
+    // added up.
     pub fn norm(&self, symbol: u8) -> u8
         ensures { result ≡ norm_at self.now symbol }
     {
         self.best_rule(symbol).measure
     }
 
-    // The first letter of a symbol's first input; 0 where there is no such symbol.
+    // The first letter of a symbol's first input; 0, which is no letter and has no rule, where there is no
+    // such symbol. No Option: the look-up of the rule tells it.
     pub fn letter(&self, symbol: u8) -> u8
         ensures { result ≡ letter_at self.now symbol }
     {

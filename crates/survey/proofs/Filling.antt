@@ -64,7 +64,7 @@ module _ {X : Type 0} (P : ℕ → ℕ → X → Type 0) where
 
 module _ {T : Type 0} (M : Meaning T) where
   -- the table has the words of fine rules
-  abbrev pub Filled : List (Option ShortWord) → ℕ → ℕ → Type 0
+  abbrev pub Filled : List (Option (ShortWord 4)) → ℕ → ℕ → Type 0
   Filled = Placed (λ A a o. (option_map held o ≡ words_of M A a) × Fine M.count M A a)
 
   module _ (F : WellFormed M) where
@@ -79,16 +79,16 @@ module _ {T : Type 0} (M : Meaning T) where
     fine_none : (A a : ℕ) → ¬ ((A < M.count) × Letter a) → Fine M.count M A a
     fine_none A a h = let e = no_rule A a h in record { short = rw e (omega arith); known = rw e tt }
 
-    fine_sooner : (ws : List (Option ShortWord)) (A a : ℕ) → Filled ws A a → (B b : ℕ) → Sooner B b A a → Fine M.count M B b
+    fine_sooner : (ws : List (Option (ShortWord 4))) (A a : ℕ) → Filled ws A a → (B b : ℕ) → Sooner B b A a → Fine M.count M B b
     fine_sooner ws A a f B b s =
         ⊎_elim (λ e. (f.each B b None (letter_true b e) s).1) (λ e. fine_none B b (λ h. letter_false b e h.1)) (cases_Bool (letter b))
 
     -- a rule that is not fine
-    pub filled_bad : (n v : ℕ) (𝓣 : Group T) → Sized n M → (ws : List (Option ShortWord)) (A a : ℕ) → Filled ws A a → (f : GrammarFault) → BadRule M.count M A a f → Refused n v 𝓣 M f
+    pub filled_bad : (n v : ℕ) (𝓣 : Group T) → Sized n M → (ws : List (Option (ShortWord 4))) (A a : ℕ) → Filled ws A a → (f : GrammarFault) → BadRule M.count M A a f → Refused n v 𝓣 M f
     filled_bad n v 𝓣 s ws A a fill f b = bad_rule s A a (fine_sooner ws A a fill) b
 
     -- all places
-    pub filled_all : (n : ℕ) → Sized n M → (ws : List (Option ShortWord)) → Filled ws M.count 65 → TakenUp n M M.count ws
+    pub filled_all : (n : ℕ) → Sized n M → (ws : List (Option (ShortWord 4))) → Filled ws M.count 65 → TakenUp n M M.count ws
     filled_all n s ws f = record { sized = s; count = refl; rules = fine; words = same }
       where
         here : (A a : ℕ) → (ltb A M.count && letter a) ≡ true → (option_map held (get_or ws (index A a) None) ≡ words_of M A a) × Fine M.count M A a
@@ -106,7 +106,7 @@ module _ {T : Type 0} (M : Meaning T) where
             (cases_Bool (ltb A M.count && letter a))
 
     -- the same for a count that is told
-    pub taken_up : (n k : ℕ) → k ≡ M.count → Sized n M → (ws : List (Option ShortWord)) → Filled ws k 65 → TakenUp n M k ws
+    pub taken_up : (n k : ℕ) → k ≡ M.count → Sized n M → (ws : List (Option (ShortWord 4))) → Filled ws k 65 → TakenUp n M k ws
     taken_up n k c s ws f = subst (λ x. TakenUp n M x ws) (sym c) (filled_all n s ws (subst (λ x. Filled ws x 65) c f))
 
 -- the word of a rule, by the words alone
@@ -115,7 +115,7 @@ body_word None = refl
 body_word (Some m) = refl
 
 -- the symbols of a fine grammar's words are known, place by place
-pub known_places : {T : Type 0} (n : ℕ) (M : Meaning T) (k : ℕ) (ws : List (Option ShortWord)) → TakenUp n M k ws → (A a i : ℕ) → i < length (body (stored k ws A a)) → get_or (body (stored k ws A a)) i 0 < k
+pub known_places : {T : Type 0} (n : ℕ) (M : Meaning T) (k : ℕ) (ws : List (Option (ShortWord 4))) → TakenUp n M k ws → (A a i : ℕ) → i < length (body (stored k ws A a)) → get_or (body (stored k ws A a)) i 0 < k
 known_places n M k ws t A a i h =
     let e : body (stored k ws A a) ≡ word_of (M.rule A a) = ap body (t.words A a) ∙ body_word (M.rule A a) in
     let b : Below k (body (stored k ws A a)) = subst (Below k) (sym e) (subst (λ x. Below x (word_of (M.rule A a))) (sym t.count) (t.rules A a).known) in

@@ -30,7 +30,7 @@ module _ {T : Type 0} (k : ℕ) (M : Meaning T) (A a : ℕ) (w : Word) (is : w �
   fine h = record { short = short; known = subst (Below k) is (each_from_places (λ B. B < k) w (λ i l. h i 0 l)) }
 
   -- the word, where there is a rule
-  pub there : (b : _) (x : ShortWord) → b ≡ is_some (M.rule A a) → held x ≡ w → option_map held (then_some b x) ≡ words_of M A a
+  pub there : (b : _) (x : ShortWord 4) → b ≡ is_some (M.rule A a) → held x ≡ w → option_map held (then_some b x) ≡ words_of M A a
   there b x e d = rw e (go (M.rule A a) (d ∙ is))
     where
       go : (o : Option (Weighted T)) → held x ≡ word_of o → option_map held (then_some (is_some o) x) ≡ option_map (λ m. m.word) o

@@ -113,7 +113,7 @@ module _ {T : Type 0} (n v : ℕ) (𝓣 : Group T) (M : Meaning T) where
       too_long s y (λ B h. some_lives B (b.live B h)) A b.symbol (λ r k. b.here r (taken_reads 𝓣 M r (A ∷ []) k))
       (λ B h. let w = b.before B h in (w.0, reads_taken 𝓣 M w.0 (B ∷ []) w.1, w.2)) refl
 
-  pub unnormed_refused : (k : ℕ) (ws : List (Option ShortWord)) → TakenUp n M k ws → (f : NormFault) → measured.Unnormed v k (stored k ws) f → Refused n v 𝓣 M (from_norms f)
+  pub unnormed_refused : (k : ℕ) (ws : List (Option (ShortWord 4))) → TakenUp n M k ws → (f : NormFault) → measured.Unnormed v k (stored k ws) f → Refused n v 𝓣 M (from_norms f)
   unnormed_refused k ws up f u = at f (subst (λ R. measured.Unnormed v M.count R f) same (subst (λ j. measured.Unnormed v j (stored k ws) f) up.count u))
     where
       same : stored k ws ≡ words_of M

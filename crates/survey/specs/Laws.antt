@@ -28,7 +28,7 @@ pub record Surveys {T : Type 0} (n v : ℕ) (𝓣 : Group T) (M : Meaning T) (s 
   pub normed : Normed 𝓣 M (norm_in s) (first_in s)
   pub laws : NormLaws 𝓣 M (norm_in s) (first_in s)
 
-pub record TakenUp {T : Type 0} (n : ℕ) (M : Meaning T) (k : ℕ) (ws : List (Option ShortWord)) : Type 0 where
+pub record TakenUp {T : Type 0} (n : ℕ) (M : Meaning T) (k : ℕ) (ws : List (Option (ShortWord 4))) : Type 0 where
   pub sized : Sized n M
   pub count : k ≡ M.count
   pub rules : (A a : ℕ) → Fine M.count M A a

@@ -14,7 +14,7 @@ use tally::Tally;
 
 impl<T: Tally> Survey<T> {
     // The word of the rule for the symbol and the letter, if there is one.
-    pub(crate) fn rule_word(&self, symbol: u8, letter: u8) -> Option<ShortWord>
+    pub(crate) fn rule_word(&self, symbol: u8, letter: u8) -> Option<ShortWord<4>>
         ensures { option_map held result ≡ words_in self.now symbol letter }
     {
         self.skeleton.words.word(symbol, letter)
@@ -46,7 +46,6 @@ impl<T: Tally> Grammar for Survey<T> {
             .map_or(255, |word| word.symbol(at))
     }
 
-    // A match: a closure that gives a value of a parameter's type gets no proof.
     fn rule_tally(&self, symbol: u8, letter: u8) -> T {
         match self.rule_word(symbol, letter) {
             Some(_) => self

@@ -19,7 +19,7 @@ fn rule_word<G: Grammar>(
     count: u8,
     symbol: u8,
     letter: u8,
-) -> Result<Option<ShortWord>, GrammarFault>
+) -> Result<Option<ShortWord<4>>, GrammarFault>
     ensures { elim result [ Ok o ↦ (option_map held o ≡ words_of (G.Grammar.meaning g.now) symbol letter) × Fine count (G.Grammar.meaning g.now) symbol letter | Err f ↦ BadRule count (G.Grammar.meaning g.now) symbol letter f ] }
 {
     let len = g.rule_len(symbol, letter);
@@ -53,12 +53,14 @@ pub(crate) fn rule_words<G: Grammar>(g: &G) -> Result<RuleWords, GrammarFault>
     Ok(RuleWords { count, words })
 }
 
-// The tallies of the rules of a grammar with these words, each at its rule's place.
+// The tallies of the rules of a grammar with these words, each at its rule's place. Of the words only the
+// count is read, which their type bounds.
 pub(crate) fn rule_tallies<G: Grammar>(g: &G, words: &RuleWords) -> [G::T; PLACES]
     ensures size { length result ≡ 832 }
     ensures each { (A a : ℕ) (d : G.T) → A < words.now.count → Letter a → slice_index_or result (index A a) d ≡ tally_of G.T.Tally.group.zero ((G.Grammar.meaning g.now).rule A a) }
 {
     let mut tallies = [<G::T as Tally>::zero(); PLACES];
+    // By numbers, as above.
     for symbol in 0..words.count {
         for letter in b'A'..=b'Z' {
             tallies[index_of(symbol, letter)] = g.rule_tally(symbol, letter);

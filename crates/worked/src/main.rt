@@ -57,15 +57,22 @@ fn answer_all<G: Grammar<T = FootMm>>(
     Ok(())
 }
 
-// Answers the table over a twin, for words of its second grammar.
+// Answers the table over a twin, for words of its second grammar. A loop of its own: this run allocates,
+// and a closure that does is no plainer.
 fn answer_second(
     rt: &(impl Print + AllocGlobal),
     twin: &Twin<ListGrammar<FootMm>, ListGrammar<FootMm>>,
 ) -> anyhow::Result<()> {
     for line in Lines(TABLE) {
-        let query = read(rt.alloc(), line)?;
-        let outcome = outcome_in_second(rt.alloc(), twin, &query.word, query.input)?;
-        say(rt, "twin, second", line, outcome)?;
+        match read(rt.alloc(), line) {
+            Ok(query) => {
+                let outcome = outcome_in_second(rt.alloc(), twin, &query.word, query.input)?;
+                say(rt, "twin, second", line, outcome)?
+            }
+            Err(error @ QueryError::OutOfMemory) => return Err(error.into()),
+            // The table has no such line.
+            Err(_) => {}
+        }
     }
     Ok(())
 }

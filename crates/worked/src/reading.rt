@@ -30,7 +30,7 @@ fn spell(heap: Global, names: &[u8]) -> Result<Vec<u8>, QueryError>
     Ok(word)
 }
 
-// The bytes before and after the first `byte`.
+// The bytes before and after the first `byte`. Slices have no `split_once`.
 fn cut(bytes: &[u8], byte: u8) -> Option<(&[u8], &[u8])>
     ensures { option_map pair_now result ≡ cut_at byte bytes.now }
 {
@@ -46,7 +46,7 @@ pub fn next_line(text: &[u8]) -> (&[u8], &[u8])
     cut(text, b'\n').unwrap_or((text, &[]))
 }
 
-// The lines of a text.
+// The lines of a text. No `split`: behind the last line feed it would give a line more.
 #[derive(Drop)]
 pub struct Lines<'a>(pub &'a [u8]);
 

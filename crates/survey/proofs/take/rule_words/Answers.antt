@@ -36,7 +36,7 @@ pub loop-symbol-preserved : goal.loop-symbol-preserved
 loop-symbol-preserved g c = placed_next _ c.loop-letter.words c.loop-symbol.symbol c.loop-letter.letter (omega arith) c.loop-letter.invariant
 
 -- the table is filled
-whole : {T : Type 0} (M : Meaning T) (k e : ℕ) (ws : List (Option ShortWord)) → WellFormed M → k ≡ M.count → ¬ (k ≡ 0) → k ≤ 32 → k ≤ e → e ≤ k → Filled M ws e 65 → TakenUp 32 M k ws
+whole : {T : Type 0} (M : Meaning T) (k e : ℕ) (ws : List (Option (ShortWord 4))) → WellFormed M → k ≡ M.count → ¬ (k ≡ 0) → k ≤ 32 → k ≤ e → e ≤ k → Filled M ws e 65 → TakenUp 32 M k ws
 whole M k e ws F c some few long short f = taken_up M F 32 k c (sized M k c some few) ws (subst (λ x. Filled M ws x 65) (let d : e ≡ k = omega arith in d) f)
 
 pub invariant_of-result : goal.invariant_of-result
