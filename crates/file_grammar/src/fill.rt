@@ -27,6 +27,7 @@ fn placed<'a>(bytes: &'a [u8], kinds: u8) -> [Option<&'a [u8]>; PLACES]
 {
     let mut rules = [None; PLACES];
     let mut left = bytes;
+    // No count: rules are taken off the front until none is left.
     while let [symbol, letter, ..] = left {
         put(&mut rules, *symbol, *letter, left);
         left = RuleBytes { bytes: left, kinds }.rest();
@@ -38,6 +39,7 @@ fn placed<'a>(bytes: &'a [u8], kinds: u8) -> [Option<&'a [u8]>; PLACES]
 pub(crate) fn table_of<'a>(file: Checked<'a>) -> RuleTable<'a>
     ensures { (c : Contents) → Legal c → Shows file.entry c → Tables result c }
 {
+    // A checked file has at most 32 names and two kinds.
     let count = u8::try_from(file.names.len()).unwrap_or(u8::MAX);
     let kinds = u8::try_from(file.kinds.len()).unwrap_or(u8::MAX);
     let rules = placed(file.rules.bytes, kinds);

@@ -49,6 +49,7 @@ impl<'a> RuleBytes<'a> {
             return 0;
         }
         let from = 4 * usize::from(at) + 2;
+        // Byte by byte: one that is missing counts as 0 by itself.
         let bytes = [
             self.byte(from),
             self.byte(from + 1),

@@ -16,7 +16,8 @@ pub(crate) struct RuleTable<'a> {
 impl<'a> RuleTable<'a> {
     ghost use Rattle.file_grammar.specs.Tabled.{bytes_at};
 
-    // The rule for the symbol and the letter, if there is one.
+    // The rule for the symbol and the letter, if there is one. A look-up as a survey's, whose table has ghost
+    // fields of its own.
     pub(crate) fn rule(&self, symbol: u8, letter: u8) -> Option<RuleBytes<'a>>
         ensures { MatchOption result (bytes_at self.now symbol letter ≡ None) (λ r. (bytes_at self.now symbol letter ≡ Some r.bytes.now) × (r.kinds ≡ self.now.kinds)) }
     {

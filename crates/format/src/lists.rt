@@ -8,7 +8,7 @@ ghost use Rattle.format.specs.Views.{Reads, lent, Behind};
 use crate::reader::Reader;
 use layout::{Fault, Kind};
 
-// Whether the byte may be a name: a to z, 0 to 9.
+// Whether the byte may be a name: a to z, 0 to 9. A test, no conversion.
 fn is_name(byte: u8) -> bool
     ensures { result ≡ named byte }
 {
@@ -56,6 +56,7 @@ impl<'a> Reader<'a> {
     {
         let count = self.count_within(1, 32)?;
         let body = self.left;
+        // One behind the other: nothing is indexed.
         for _ in 0..count {
             self.name(self.read_of(body))?;
         }
@@ -69,6 +70,7 @@ impl<'a> Reader<'a> {
         let count = self.count_within(0, 2)?;
         let body = self.left;
         let mut before = None;
+        // One behind the other: nothing is indexed.
         for _ in 0..count {
             before = Some(self.kind(before)?);
         }

@@ -52,7 +52,7 @@ impl<'a> Reader<'a> {
         }
     }
 
-    // A symbol below `count`. No field: a reader of names has no count yet, and offers have no names.
+    // A symbol below `count`. No field: a reader has no count before it has read the names.
     pub(crate) fn symbol_below(&mut self, count: u8) -> Result<u8, Fault>
         ensures { Reads (λ t. below t count) self.old result self.new }
     {
@@ -71,6 +71,7 @@ impl<'a> Reader<'a> {
         ensures { Reads (λ t. word t count len) self.old (lent result) self.new }
     {
         let body = self.left;
+        // One behind the other: nothing is indexed.
         for _ in 0..len {
             self.symbol_below(count)?;
         }

@@ -10,7 +10,8 @@ use crate::row::{Row, Section};
 use layout::Fault;
 
 impl<'a> Reader<'a> {
-    // Judges the symbol of the row that comes next: below `count`, and after the row before it.
+    // Judges the symbol of the row that comes next: below `count`, and after the row before it. Rules have
+    // another `before`, so the two stay apart.
     fn judge_symbol(&self, symbol: u8, count: u8, before: Option<u8>) -> Result<(), Fault>
         ensures { Behind row_head before (λ xs. Judged self.now.total count xs symbol self.now.left.now result) }
     {
@@ -58,6 +59,7 @@ impl<'a> Reader<'a> {
         let size = self.count_within(0, 31)?;
         let body = self.left;
         let mut before = None;
+        // One behind the other: nothing is indexed.
         for _ in 0..size {
             before = Some(self.row(count, before)?.symbol);
         }

@@ -75,6 +75,7 @@ impl<'a> Reader<'a> {
         let size = self.rule_count()?;
         let body = self.left;
         let mut before = None;
+        // One behind the other: nothing is indexed.
         for _ in 0..size {
             before = Some(self.rule(count, kinds, before)?);
         }

@@ -53,6 +53,7 @@ pub fn derive<G: Grammar>(g: &G, word: &[u8], input: &[u8]) -> Result<Option<G::
     let mut stack = WordStack::new();
     stack.push_word(word);
     let mut sum = <G::T as Tally>::zero();
+    // A step asks how many letters are left.
     for (i, letter) in input.iter().enumerate() {
         let Some(tally) = step(g, &mut stack, *letter, input.len() - i - 1) else {
             return Ok(None);

@@ -32,6 +32,7 @@ impl RuleWord {
     fn symbol(self, at: u8) -> u8
         ensures { result ≡ slice_index_or (written self) at 255 }
     {
+        // The room cut to its length.
         let symbols = &self.symbols[..self.len() as usize];
         symbols.get(at as usize).copied().unwrap_or(255)
     }

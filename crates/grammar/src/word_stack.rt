@@ -51,6 +51,7 @@ impl<const N: usize> WordStack<N> {
         ensures { held self.new ≡ (if ltb (length (held self.old)) N then symbol ∷ held self.old else held self.old) }
     {
         if self.top > 0 {
+            // By index: `top` is where the word begins.
             self.top -= 1;
             self.cells[self.top] = symbol;
         }

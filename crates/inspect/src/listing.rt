@@ -67,13 +67,16 @@ impl<'a, R: Print> Listing<'a, R> {
         let names = file.names;
         let count = file.rows.count;
         self.part(1, format_args!("{count} rows"))?;
-        for (symbol, word) in Rows(file.rows.bytes) {
+        for row in Rows(file.rows.bytes) {
             let name = Spelled {
                 names,
-                word: &[symbol],
+                word: &[row.symbol],
             };
-            let size = word.len().saturating_add(2);
-            let word = Spelled { names, word };
+            let size = row.word.len().saturating_add(2);
+            let word = Spelled {
+                names,
+                word: row.word,
+            };
             self.part(size, format_args!("{name} {word}"))?;
         }
         Ok(())

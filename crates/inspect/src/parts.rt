@@ -2,6 +2,7 @@
 ghost use Rattle.std.specs.Prelude.{◌<◌, length, IfSome};
 ghost use Rattle.std.specs.Iterator.{at_most};
 
+use format::Row;
 use std::fmt;
 
 // A rule: its symbol, its letter, the four bytes of each number, and its word.
@@ -72,15 +73,18 @@ impl<'a> Iterator for Rules<'a> {
 pub struct Rows<'a>(pub &'a [u8]);
 
 impl<'a> Iterator for Rows<'a> {
-    type Item = (u8, &'a [u8]);
+    type Item = Row<'a>;
 
     ghost remaining = { λ s. at_most (length s.0.now) };
 
-    fn next(&mut self) -> Option<(u8, &'a [u8])> {
+    fn next(&mut self) -> Option<Row<'a>> {
         let (symbol, rest) = self.0.split_first()?;
         let (word, rest) = split_word(rest)?;
         self.0 = rest;
-        Some((*symbol, word))
+        Some(Row {
+            symbol: *symbol,
+            word,
+        })
     }
 }
 
@@ -97,6 +101,7 @@ impl<'a> fmt::Display for Spelled<'a> {
             return f.write_str("-");
         }
         for symbol in self.word {
+            // A checked file has a name for each symbol.
             let name = self
                 .names
                 .get(usize::from(*symbol))

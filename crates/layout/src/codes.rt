@@ -10,6 +10,7 @@ impl From<Fault> for FaultCode {
     ghost from_gives = { λ fault code. code ≡ code_of fault };
 
     fn from(fault: Fault) -> FaultCode {
+        // A fault is told with two numbers, always: 0 where it has no such number.
         let (number, first) = match fault {
             Fault::Short(bytes) => (1, bytes),
             Fault::Limit(place) => (2, place),

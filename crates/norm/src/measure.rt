@@ -60,7 +60,8 @@ impl Measuring {
             .map_or(NO_INPUT, |word| self.through(word.as_slice()))
     }
 
-    // The best rule of a symbol. No `min_by_key`: where no rule has a measure there is no letter either.
+    // The best rule of a symbol. No `min_by_key`: it would want a filter before, and is
+    // no plainer.
     fn best_rule(&self, symbol: u8) -> BestRule
         ensures { IsBest self.now symbol result }
     {
@@ -108,6 +109,7 @@ impl Measuring {
     {
         let measures = [NO_INPUT; 32];
         let mut measuring = Measuring { words, measures };
+        // No count: until nothing falls.
         while measuring.lower_all() {}
         measuring
     }

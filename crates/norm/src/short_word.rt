@@ -21,6 +21,7 @@ impl<const N: usize> ShortWord<N> {
     pub fn as_slice(&self) -> &[u8]
         ensures { result.now ≡ held self.now }
     {
+        // The room cut to its length.
         let symbols = &self.symbols[..];
         &symbols[..self.len as usize]
     }

@@ -11,6 +11,7 @@ impl From<GrammarFault> for FaultCode {
     ghost from_gives = { λ f r. r ≡ code_of f };
 
     fn from(fault: GrammarFault) -> FaultCode {
+        // A fault is told with two numbers, always: 0 where it has no such number.
         let (number, first, second) = match fault {
             GrammarFault::Count(count) => (8, count, 0),
             GrammarFault::LongRule { symbol, letter } => (9, symbol, letter),

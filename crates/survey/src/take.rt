@@ -43,7 +43,7 @@ pub(crate) fn rule_words<G: Grammar>(g: &G) -> Result<RuleWords, GrammarFault>
         return Err(GrammarFault::Count(count));
     }
     let mut words = [None; PLACES];
-    // A grammar is asked by numbers: there is nothing else to go over.
+    // A grammar is asked by numbers, and a rule has its place: there is nothing else to go over.
     for symbol in 0..count {
         for letter in b'A'..=b'Z' {
             let word = rule_word(g, count, symbol, letter)?;

@@ -22,12 +22,12 @@ use tally::FootMm;
 // Words and inputs that are worked out by hand.
 const TABLE: &[u8] = b"bb SLLL\nb SL\n- -\nb L\nf L\nk PL\nq PL\nkq PLPL\nb l\n";
 
-// Bytes as they are shown. No Display: bytes have none, and a line need not be text.
+// Bytes as they are shown, as a line need not be text. A type of its own only to print it is no plainer.
 fn shown(bytes: &[u8]) -> &str {
     std::str::from_utf8(bytes).unwrap_or("(bytes that are no text)")
 }
 
-// Says what happened on a line. No Display: an outcome is a Result of the library's.
+// Says what happened on a line. A type of its own only to print an outcome is no plainer.
 fn say(rt: &impl Print, place: &str, line: &[u8], outcome: Outcome) -> io::Result<()> {
     let query = shown(line);
     match outcome {

@@ -22,7 +22,7 @@ fn symbol_of(name: u8) -> Option<u8>
 fn spell(heap: Global, names: &[u8]) -> Result<Vec<u8>, QueryError>
     ensures { Spells result names.now }
 {
-    // A loop, since `try_collect` does not say where it fails.
+    // A loop: `try_collect` would be no shorter, and its proof would speak of the iterator's runs.
     let mut word = Vec::new(heap);
     for name in names {
         word.push(symbol_of(*name).ok_or(QueryError::NoWord)?)?;
@@ -46,7 +46,8 @@ pub fn next_line(text: &[u8]) -> (&[u8], &[u8])
     cut(text, b'\n').unwrap_or((text, &[]))
 }
 
-// The lines of a text. No `split`: behind the last line feed it would give a line more.
+// The lines of a text. No `split`, which gives a line more behind the last line feed, and no
+// `split_inclusive`, which leaves each its line feed.
 #[derive(Drop)]
 pub struct Lines<'a>(pub &'a [u8]);
 

@@ -10,7 +10,7 @@ use grammar::{Grammar, Twin, derive};
 use std::alloc::{AllocError, Global};
 use tally::FootMm;
 
-// What the grammar says of the word and the input.
+// What the grammar says of the word and the input, apart as `derive` takes them.
 pub fn outcome_of<G: Grammar<T = FootMm>>(g: &G, word: &[u8], input: &[u8]) -> Outcome
     ensures { result ≡ in_millimetres (derived foot_group (G.Grammar.meaning g.now) word.now input.now) }
 {
