@@ -2,22 +2,22 @@
 ghost use Rattle.std.specs.Prelude.{◌≡◌, length};
 
 use crate::best_rule::{BestRule, NO_RULE};
-use crate::rule_words::RuleWords;
+use crate::rule_words::{RuleWords, SYMBOLS};
 
 // The greatest norm that is allowed. Measures are on one scale, less being better: a norm up to
 // here, then one value for all that is longer, and one for a symbol of which no input is known.
 // No enum: measures are added up, capped and compared, and for that it would need arithmetic of its own.
 pub const MAX_NORM: u8 = 64;
 
-pub(crate) const TOO_LONG: u8 = 65;
+pub(crate) const TOO_LONG: u8 = MAX_NORM + 1;
 
-pub(crate) const NO_INPUT: u8 = 66;
+pub(crate) const NO_INPUT: u8 = TOO_LONG + 1;
 
 // Norms as they are measured: the words of the rules, and the least measure yet of each symbol.
 #[derive(Drop)]
 pub(crate) struct Measuring {
     pub(crate) words: RuleWords,
-    measures: [u8; 32],
+    measures: [u8; SYMBOLS],
     ghost room: { length measures ≡ 32 },
 }
 
@@ -76,7 +76,7 @@ impl Measuring {
     }
 
     // The best rules of all symbols.
-    pub(crate) fn best_rules(&self) -> [BestRule; 32]
+    pub(crate) fn best_rules(&self) -> [BestRule; SYMBOLS]
         ensures { (A : ℕ) → A < 32 → IsBest self.now A (best_at result A) }
     {
         std::array::from_fn(|symbol| self.best_rule(symbol as u8))
@@ -107,7 +107,7 @@ impl Measuring {
         ensures reached { IsReached result }
         ensures settled { IsSettled result }
     {
-        let measures = [NO_INPUT; 32];
+        let measures = [NO_INPUT; SYMBOLS];
         let mut measuring = Measuring { words, measures };
         // No count: until nothing falls.
         while measuring.lower_all() {}

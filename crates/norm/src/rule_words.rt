@@ -8,6 +8,9 @@ use grammar::PLACES;
 // The most symbols of a grammar.
 pub const MAX_SYMBOLS: u8 = 32;
 
+// How many places a table by symbols has.
+pub(crate) const SYMBOLS: usize = MAX_SYMBOLS as usize;
+
 // The words of a grammar's rules, without the tallies, each at the place of its symbol and its letter.
 // Words name only symbols below the count. No table type shared with the rules of a file: the ghost
 // fields speak of the words, and what is left to share is one look-up.

@@ -5,7 +5,7 @@ ghost use Rattle.norm.specs.Measured.{norm_in, letter_in};
 ghost use Rattle.norm.specs.Ruled.{rules_of};
 
 use crate::best_rule::BestRule;
-use crate::rule_words::RuleWords;
+use crate::rule_words::{RuleWords, SYMBOLS};
 
 // A grammar without its tallies: the words of its rules, and for each symbol the best rule, which has
 // its norm and the first letter of its first input. No rule undercuts a norm; a symbol's first letter
@@ -13,7 +13,7 @@ use crate::rule_words::RuleWords;
 #[derive(Drop)]
 pub struct Skeleton {
     pub words: RuleWords,
-    pub best_rules: [BestRule; 32],
+    pub best_rules: [BestRule; SYMBOLS],
     ghost small: { (A : ℕ) → A < words.count → norm_in best_rules A ≤ 64 },
     ghost below: { (A a : ℕ) → is_some (rules_of words A a) ≡ true → norm_in best_rules A ≤ suc (norm_of (norm_in best_rules) (body (rules_of words A a))) },
     ghost there: { (A : ℕ) → A < words.count → is_some (rules_of words A (letter_in best_rules A)) ≡ true },

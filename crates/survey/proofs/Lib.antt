@@ -4,3 +4,4 @@ pub mod Weighing
 pub mod Holding
 pub mod Verdicts
 pub mod Runs
+pub mod Bare

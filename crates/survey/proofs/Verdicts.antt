@@ -3,7 +3,7 @@
 -- The idea: of two rules that are not fine, with all before them fine, neither is before the other; of two symbols that take nothing, with all smaller ones taking something, neither is smaller.
 --
 -- Assumes nothing.
-use Rattle.std.proofs.Common.{◌≡◌, ℕ, ◌<◌, ◌⊎◌, List, [], ◌∷◌, Some, None, Option, sym, refl, ap, ◌∙◌, subst, inl, inr, arith}
+use Rattle.std.proofs.Common.{◌≡◌, ℕ, ◌<◌, ◌⊎◌, List, [], ◌∷◌, Some, None, Option, Ok, Err, Result, is_ok, sym, refl, ap, ◌∙◌, subst, inl, inr, arith}
 use Rattle.std.proofs.lemmas.Bool.{cases_order}
 use Rattle.tally.specs.Group.{Group}
 use Rattle.grammar.specs.Meaning.{Meaning}
@@ -18,7 +18,9 @@ use Rattle.norm.specs.declared.fault.NormFault.TheVariants as norm_faults
 use Rattle.norm.proofs.Bridges.{taken_reads, reads_taken}
 use Rattle.survey.specs.Refusals.{Sized, Fine, BadRule, too_many, strays, Sooner, TakesSome, TakesNone, Within, Passes, Accepted, Refused, bad_count, bad_rule, no_input, too_long}
 use Rattle.survey.specs.Faults.{from_norms}
-use Rattle.survey.specs.Laws.{OneVerdict, TakenUp}
+use Rattle.survey.specs.Laws.{Exact, OneVerdict, TakenUp}
+use Rattle.survey.specs.declared.table.Survey.{Survey}
+use borrow.Author.Tests.{clash}
 use Rattle.survey.specs.declared.fault.GrammarFault.{GrammarFault}
 use Rattle.survey.specs.declared.fault.GrammarFault.TheVariants.{NoInput, TooLong}
 
@@ -93,6 +95,22 @@ module _ {T : Type 0} (n v : ℕ) (𝓣 : Group T) (M : Meaning T) where
 
   pub one_verdict : OneVerdict n v 𝓣 M
   one_verdict = record { never_both = never_both; one_fault = one_fault }
+
+  -- the fault of a result, and whether there is one
+  abbrev fault_or : GrammarFault → Result (Survey T) GrammarFault → GrammarFault
+  fault_or d (Ok s) = d
+  fault_or d (Err f) = f
+
+  -- what is accepted is not refused
+  pub exact_ok : (s : Survey T) → Accepted n v 𝓣 M → Exact n v 𝓣 M (Ok s)
+  exact_ok s x = record { accepted = (λ e. x, λ y. refl); refused = λ f. (λ e. absurd (clash (sym (ap is_ok e))), λ r. absurd (never_both f r x)) }
+
+  -- and what is refused is refused for this
+  pub exact_err : (f : GrammarFault) → Refused n v 𝓣 M f → Exact n v 𝓣 M (Err f)
+  exact_err f r = record {
+    accepted = (λ e. absurd (clash e), λ x. absurd (never_both f r x));
+    refused = λ g. (λ e. subst (Refused n v 𝓣 M) (ap (fault_or f) e) r, λ q. ap Err (one_fault f g r q));
+  }
 
   -- what the norms refuse, by the words alone, is so in the grammar
   some_lives : (A : ℕ) → Lives (words_of M) A → TakesSome 𝓣 M A

@@ -1,7 +1,7 @@
 // The survey of a grammar of any make.
 ghost use Rattle.std.specs.Prelude.{Ok, Err};
 ghost use Rattle.survey.specs.Refusals.{Refused};
-ghost use Rattle.survey.specs.Laws.{OneVerdict, Surveys};
+ghost use Rattle.survey.specs.Laws.{Exact, OneVerdict, Surveys};
 
 use crate::fault::GrammarFault;
 use crate::table::Survey;
@@ -15,6 +15,7 @@ use norm::Skeleton;
 #[tactic(auto, using(crate::proofs::Verdicts::one_verdict))]
 pub fn survey<G: Grammar>(g: &G) -> Result<Survey<G::T>, GrammarFault>
     ensures value { elim result [ Ok s ↦ Surveys 32 64 G.T.Tally.group (G.Grammar.meaning g.now) s | Err f ↦ Refused 32 64 G.T.Tally.group (G.Grammar.meaning g.now) f ] }
+    ensures exact { Exact 32 64 G.T.Tally.group (G.Grammar.meaning g.now) result }
     ensures law { OneVerdict 32 64 G.T.Tally.group (G.Grammar.meaning g.now) }
 {
     let words = rule_words(g)?;

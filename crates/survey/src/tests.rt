@@ -96,3 +96,27 @@ fn inputs_and_norms(rt: HostRuntime) -> Result<(), Fail> {
     assert_eq!(rt; refusal(heap, 4, &most)?, (0, 0, 0));
     Ok(())
 }
+
+// What an accepted grammar's survey tells: a has B aa and Z -, b has A a.
+#[test]
+fn norms_and_runs(rt: HostRuntime) -> Result<(), Fail> {
+    let rules = [
+        rule(0, b'B', 2, 0),
+        rule(0, b'Z', 0, 0),
+        rule(1, b'A', 1, 0),
+    ];
+    let g = ListGrammar::new(2, Vec::from_slice(rt.alloc(), &rules)?);
+    let survey = survey(&g).ok().expect(&rt, "it is accepted");
+    let skeleton = survey.skeleton();
+    assert_eq!(rt; skeleton.norm(1), 2);
+    assert_eq!(rt; skeleton.letter(1), b'A');
+    assert_eq!(rt; skeleton.norm_of(&[1, 0]), 3);
+    assert_eq!(rt; skeleton.earlier(0, 1), true);
+    let mut room = *b"....";
+    assert_eq!(rt; skeleton.first_input(&[1, 0], &mut room), Some(3));
+    assert_eq!(rt; room, *b"AZZ.");
+    let left = survey.run(&[1], b"AB").map(|run| run.left.len());
+    assert_eq!(rt; left, Some(2));
+    assert_eq!(rt; survey.run(&[1], b"B").is_some(), false);
+    Ok(())
+}

@@ -6,6 +6,7 @@ use Rattle.grammar.specs.Listed.{letter, written, of_record, hit, first_hit, lis
 use Rattle.grammar.specs.Twinned.{Closed}
 use Rattle.grammar.specs.declared.records.RuleRecord.{RuleRecord}
 use Rattle.worked.specs.Seven.{seven_rules, Examples}
+use Rattle.worked.proofs.SevenNorms.{normed}
 
 -- where the words of the records stay below the count, so do those of the grammar
 abbrev Words : {T : Type 0} → ℕ → List (RuleRecord T) → Type 0
@@ -44,6 +45,7 @@ examples = record {
   closed = closed;
   first_takes = refl;
   second_takes = refl;
+  normed = normed;
   first_record = refl;
   five_symbols = refl;
   beyond_count = refl;

@@ -1,1 +1,2 @@
+mod SevenNorms
 pub mod Examples

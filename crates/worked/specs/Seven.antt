@@ -7,10 +7,11 @@
 -- seven           its meaning
 -- millimetres o   the number of a tally, if there is one
 -- taken M w s      the number of millimetres with which w takes s
+-- norm, first      the norms and the first inputs of the symbols
 -- Examples         the worked examples
 --
 -- Assumes nothing.
-use Rattle.std.specs.Prelude.{◌≡◌, ℕ, ◌-◌, ◌%◌, ◌^◌, List, [], ◌∷◌, ◌++◌, length, replicate, Some, None, Option}
+use Rattle.std.specs.Prelude.{◌≡◌, ℕ, ◌-◌, ◌%◌, ◌^◌, List, [], ◌∷◌, ◌++◌, length, replicate, Some, None, Option, slice_index, slice_index_or}
 use Rattle.std.proofs.Common.{arith}
 use Rattle.std.specs.Option.{option_map}
 use Rattle.tally.specs.Makes.{foot_of, foot_group}
@@ -20,6 +21,7 @@ use Rattle.grammar.specs.Takes.{takes}
 use Rattle.grammar.specs.Listed.{listed}
 use Rattle.grammar.specs.Twinned.{twinned, raised, Closed}
 use Rattle.grammar.specs.declared.records.RuleRecord.{RuleRecord}
+use Rattle.norm.specs.Norms.{Normed}
 
 abbrev pub foot : ℕ → FootMm
 foot n = foot_of (n % 2 ^ 32) (omega arith)
@@ -63,6 +65,12 @@ millimetres = option_map (λ x. x.mm)
 abbrev pub taken : Meaning FootMm → Word → Input → Option ℕ
 taken M w s = millimetres (takes foot_group M w s)
 
+abbrev pub norm : ℕ → ℕ
+norm = slice_index (1 ∷ 1 ∷ 2 ∷ 1 ∷ 1 ∷ 2 ∷ 2 ∷ [])
+
+abbrev pub first : ℕ → Input
+first A = slice_index_or ((L ∷ []) ∷ (L ∷ []) ∷ (L ∷ L ∷ []) ∷ (L ∷ []) ∷ (L ∷ []) ∷ (P ∷ L ∷ []) ∷ (P ∷ L ∷ []) ∷ []) A []
+
 pub record Examples : Type 0 where
   -- bb takes SLLL with 810; b does not take SL
   pub bb_takes : taken seven (b ∷ b ∷ []) (S ∷ L ∷ L ∷ L ∷ []) ≡ Some 810
@@ -80,6 +88,8 @@ pub record Examples : Type 0 where
   pub closed : Closed seven
   pub first_takes : taken (twinned seven seven) (b ∷ b ∷ []) (S ∷ L ∷ L ∷ L ∷ []) ≡ Some 810
   pub second_takes : taken (twinned seven seven) (raised 7 (b ∷ b ∷ [])) (S ∷ L ∷ L ∷ L ∷ []) ≡ Some 810
+  -- the norms and the first inputs
+  pub normed : Normed foot_group seven norm first
   -- of two records for one symbol and letter the first counts; a length above five counts as five;
   -- records at a symbol that is not below the count, or at a byte that is no letter, mean nothing
   pub first_record : taken (listed 1 (rule b L [] 1 ∷ rule b L [] 2 ∷ [])) (b ∷ []) (L ∷ []) ≡ Some 1

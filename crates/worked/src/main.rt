@@ -1,7 +1,9 @@
 // The worked examples as a program: a table of words and inputs over the example grammar and over
-// its twin with itself, and then the lines of standard input, each of the form `WORD INPUT`.
+// its twin with itself, the norms and first inputs of its symbols, and then the lines of standard input,
+// each of the form `WORD INPUT`.
 #![tactic(auto)]
 
+mod norms;
 mod outcome;
 mod query;
 mod raising;
@@ -10,6 +12,7 @@ mod runs;
 mod seven;
 
 use grammar::{Grammar, ListGrammar, Twin};
+use norms::survey_symbols;
 use outcome::Outcome;
 use query::QueryError;
 use reading::{Lines, read};
@@ -84,6 +87,7 @@ fn run(rt: &(impl Print + Input + AllocGlobal)) -> anyhow::Result<()> {
     let twin = Twin::new(seven_symbols(heap)?, seven_symbols(heap)?);
     answer_all(rt, &twin, "twin, first", TABLE)?;
     answer_second(rt, &twin)?;
+    survey_symbols(rt, &g)?;
     let mut text = Vec::new(heap);
     rt.reader().read_to_end(&mut text)?;
     answer_all(rt, &g, "line", &text)

@@ -8,7 +8,7 @@ use crate::query::{Query, QueryError};
 use std::alloc::Global;
 
 // The names of the symbols, in their order.
-const NAMES: [u8; 7] = *b"bcdefkq";
+pub(crate) const NAMES: [u8; 7] = *b"bcdefkq";
 
 // The symbol of a name. No TryFrom: a symbol is a number, as its name is.
 fn symbol_of(name: u8) -> Option<u8>

@@ -12,3 +12,6 @@ returns c =
     (more c.record-5.ensures (more c.record-6.ensures (more c.record-7.ensures (more c.record-8.ensures
     (more c.record-9.ensures (more c.record-10.ensures (more c.record-11.ensures (more c.record-12.ensures refl))))))))))) in
     record { count = c.new.ensures.count; records = c.new.ensures.records ∙ c.in_ok-records.ensures.items ∙ same; examples = examples }
+
+pub returns-in_err-records-clause-examples : goal.returns-in_err-records-clause-examples
+returns-in_err-records-clause-examples c = examples
