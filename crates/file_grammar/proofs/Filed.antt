@@ -5,8 +5,7 @@ use Rattle.std.proofs.lemmas.Bool.{and_parts, and_from}
 use Rattle.std.specs.Option.{option_map}
 use Rattle.grammar.specs.Listed.{letter}
 use Rattle.layout.specs.Contents.{FileRule, Contents, LegalRule, Legal}
-use Rattle.layout.specs.Reading.{checked}
-use Rattle.file_grammar.specs.Filed.{rule_at, weighed, held, file_meaning}
+use Rattle.file_grammar.specs.Filed.{rule_at, weighed, held}
 use Rattle.file_grammar.specs.Placed.{Tables}
 use Rattle.grammar.specs.Places.{index}
 use Rattle.file_grammar.specs.Tabled.{rule_of, rule_in, tabled}
@@ -51,9 +50,5 @@ module _ {T : Type 0} (made : ℕ → ℕ → T) (t : RuleTable) (c : Contents) 
               both_ways (ltb A (min 255 t.count) && letter a) e (and_from (ltb A (min 255 t.count)) (letter a) (lt-ltb A (min 255 t.count) below) (and_from (leb 65 a) (leb a 90) (le-leb 65 a from) (le-leb a 90 to)))
 
   -- the two meanings, by their parts
-  same_meaning : tabled made t ≡ held made (Ok c)
+  pub same_meaning : tabled made t ≡ held made (Ok c)
   same_meaning = λ i. record { count = same_count i; rule = λ A a. same_rule A a i }
-
-  -- what a file holds, if the check accepts it
-  pub filed : (ks bs : List ℕ) → checked ks bs ≡ Ok c → tabled made t ≡ file_meaning ks made bs
-  filed ks bs e = same_meaning ∙ ap (held made) (sym e)

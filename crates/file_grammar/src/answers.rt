@@ -1,12 +1,14 @@
 // The grammar that a file holds.
-ghost use Rattle.std.specs.Prelude.{◌≡◌};
-ghost use Rattle.file_grammar.specs.Filed.{file_meaning};
+ghost use Rattle.std.specs.Prelude.{◌≡◌, Ok};
+ghost use Rattle.layout.specs.Contents.{Contents, Legal};
+ghost use Rattle.format.specs.Views.{Shows};
+ghost use Rattle.file_grammar.specs.Filed.{held, file_meaning};
 ghost use Rattle.file_grammar.specs.Tabled.{tabled};
 ghost use Rattle.file_grammar.specs.WellTabled.{tabled_wellformed};
 
 use crate::fill::{empty_table, table_of};
 use crate::rule_table::RuleTable;
-use format::{FileTally, check_file};
+use format::{Checked, FileTally, check_file};
 use grammar::Grammar;
 use std::marker::PhantomData;
 
@@ -18,15 +20,23 @@ pub struct FileGrammar<'a, T> {
 }
 
 impl<'a, T: FileTally> FileGrammar<'a, T> {
+    // The grammar of a checked file, whatever its kinds: tallies are made of the first two numbers of a
+    // rule, and one that a rule lacks is 0.
+    pub fn of_file(file: Checked<'a>) -> FileGrammar<'a, T>
+        ensures { (c : Contents) → Legal c → Shows file.entry c → tabled T.FileTally.made result.table ≡ held T.FileTally.made (Ok c) }
+    {
+        FileGrammar {
+            table: table_of(file),
+            tally: PhantomData,
+        }
+    }
+
     // The grammar of a file's bytes; bytes that the check refuses are a grammar without symbols.
     pub fn new(bytes: &'a [u8]) -> FileGrammar<'a, T>
         ensures { tabled T.FileTally.made result.table ≡ file_meaning T.FileTally.kinds T.FileTally.made bytes.now }
     {
         match check_file::<T>(bytes) {
-            Ok(file) => FileGrammar {
-                table: table_of(file),
-                tally: PhantomData,
-            },
+            Ok(file) => FileGrammar::of_file(file),
             Err(_) => FileGrammar {
                 table: empty_table(),
                 tally: PhantomData,

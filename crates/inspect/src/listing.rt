@@ -1,7 +1,9 @@
-// A checked file in words, each part on a line with its place in the bytes.
-use crate::parts::{Numbers, Rows, Rules, Spelled};
+// A file in words: each part on a line with its place in the bytes, then norms and first inputs.
+use crate::inspected::Inspected;
+use crate::parts::{Numbers, Rules, Spelled};
 use format::Checked;
 use layout::Kind;
+use norm::{MAX_NORM, Skeleton};
 use std::fmt::Display;
 use std::io;
 
@@ -67,7 +69,7 @@ impl<'a, R: Print> Listing<'a, R> {
         let names = file.names;
         let count = file.rows.count;
         self.part(1, format_args!("{count} rows"))?;
-        for row in Rows(file.rows.bytes) {
+        for row in file.rows.rows() {
             let name = Spelled {
                 names,
                 word: &[row.symbol],
@@ -81,13 +83,32 @@ impl<'a, R: Print> Listing<'a, R> {
         }
         Ok(())
     }
+
+    // The norm and the first input of each symbol.
+    fn norms(&self, names: &[u8], skeleton: &Skeleton) -> io::Result<()> {
+        for symbol in 0..skeleton.words.count {
+            let name = Spelled {
+                names,
+                word: &[symbol],
+            };
+            let norm = skeleton.norm(symbol);
+            let mut room = [0; MAX_NORM as usize];
+            // A first input has as many letters as the norm.
+            let len = skeleton.first_input(&[symbol], &mut room).unwrap_or(0);
+            let letters = std::str::from_utf8(&room[..len]).unwrap_or("?");
+            println!(self.rt; "{name}: norm {norm}, first input {letters}")?;
+        }
+        Ok(())
+    }
 }
 
 // Prints the whole file.
-pub fn show(rt: &impl Print, file: Checked) -> anyhow::Result<()> {
+pub fn show(rt: &impl Print, inspected: &Inspected) -> anyhow::Result<()> {
+    let file = inspected.file;
     let mut listing = Listing { rt, place: 0 };
     listing.head(&file)?;
     listing.rules(&file)?;
     listing.rows(&file)?;
+    listing.norms(file.names, inspected.survey.skeleton())?;
     Ok(())
 }

@@ -1,8 +1,7 @@
-// The rules and the rows of a checked file, one by one.
+// The rules of a checked file, one by one, and how words and numbers are shown.
 ghost use Rattle.std.specs.Prelude.{◌<◌, length, IfSome};
 ghost use Rattle.std.specs.Iterator.{at_most};
 
-use format::Row;
 use std::fmt;
 
 // A rule: its symbol, its letter, the four bytes of each number, and its word.
@@ -65,26 +64,6 @@ impl<'a> Iterator for Rules<'a> {
         let (rule, rest) = split_rule(self.bytes, self.kinds)?;
         self.bytes = rest;
         Some(rule)
-    }
-}
-
-// The rows that lie in the bytes, each a symbol and a word.
-#[derive(Drop)]
-pub struct Rows<'a>(pub &'a [u8]);
-
-impl<'a> Iterator for Rows<'a> {
-    type Item = Row<'a>;
-
-    ghost remaining = { λ s. at_most (length s.0.now) };
-
-    fn next(&mut self) -> Option<Row<'a>> {
-        let (symbol, rest) = self.0.split_first()?;
-        let (word, rest) = split_word(rest)?;
-        self.0 = rest;
-        Some(Row {
-            symbol: *symbol,
-            word,
-        })
     }
 }
 
