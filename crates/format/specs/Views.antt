@@ -5,10 +5,11 @@
 -- ReadsItems enc o r result s the same of a section, whose items lie in the bytes as enc says
 -- lent, lent_row              what is given with the lent bytes read out
 -- newest xs                   the item that was read last, if there is one
+-- GivesRow bs r cs            the bytes bs begin with the row r and cs is left; or they begin with no row, and stay
 -- Behind head before P        P holds behind any items, the newest first, where `before` is the head of the newest
 --
 -- Assumes nothing.
-use Rattle.std.specs.Prelude.{◌≡◌, ℕ, ◌<◌, true, List, [], ◌∷◌, length, Some, None, Ok, Err, Option, Result}
+use Rattle.std.specs.Prelude.{◌≡◌, ℕ, ◌<◌, true, List, [], ◌∷◌, ◌++◌, length, Some, None, Ok, Err, Option, Result, MatchOption}
 use Rattle.std.specs.Borrow.{Bor}
 use Rattle.std.specs.Option.{option_map}
 use Rattle.layout.specs.Contents.{FileRule, FileRow, Contents, joined, rule_bytes, row_bytes}
@@ -63,6 +64,14 @@ row_of r = record { symbol = r.symbol; word = r.word.now }
 abbrev pub lent_row : Result Row Fault → Result FileRow Fault
 lent_row (Ok r) = Ok (row_of r)
 lent_row (Err f) = Err f
+
+-- bytes that begin with no row
+abbrev pub NoRow : List ℕ → Type 0
+NoRow bs = (r : FileRow) (cs : List ℕ) → ¬ (bs ≡ row_bytes r ++ cs)
+
+-- the row that is given, and what is left
+abbrev pub GivesRow : List ℕ → Option Row → List ℕ → Type 0
+GivesRow bs r cs = MatchOption r (NoRow bs × (cs ≡ bs)) (λ r. bs ≡ row_bytes (row_of r) ++ cs)
 
 -- a section's items as they lie in the bytes: how many, and their bytes
 pub record ReadItems {X : Type 0} (enc : X → List ℕ) (o : Result (Read (List X)) Fault) (section : Section) (rest : List ℕ) : Type 0 where

@@ -18,4 +18,4 @@ pub use contents::{FileContents, RuleEntry};
 pub use encode::encode_into;
 pub use file_tally::{FileTally, OneNumber};
 pub use row::{Checked, Row, Section};
-pub use rows::rows_section;
+pub use rows::{SectionRows, rows_section};

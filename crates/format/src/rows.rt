@@ -1,9 +1,10 @@
 // The section of rows, one reader for files and offers.
-ghost use Rattle.std.specs.Prelude.{◌≡◌};
+ghost use Rattle.std.specs.Prelude.{◌≡◌, length};
 ghost use Rattle.layout.specs.Contents.{row_bytes};
 ghost use Rattle.layout.specs.Laws.{RowsLaw};
 ghost use Rattle.layout.specs.Reading.{row, rows};
-ghost use Rattle.format.specs.Views.{Reads, lent_row, row_head, Behind, Judged, ReadsItems, TookItems};
+ghost use Rattle.std.specs.Iterator.{at_most};
+ghost use Rattle.format.specs.Views.{Reads, lent_row, row_head, Behind, Judged, ReadsItems, TookItems, GivesRow};
 
 use crate::reader::Reader;
 use crate::row::{Row, Section};
@@ -79,4 +80,39 @@ pub fn rows_section(total: usize, bytes: &[u8], count: u8) -> Result<(Section<'_
     let mut reader = Reader { total, left: bytes };
     let rows = reader.rows(count)?;
     Ok((rows, reader.left))
+}
+
+// The rows that lie in the bytes, one by one, up to the first bytes that are no row.
+#[derive(Drop)]
+pub struct SectionRows<'a> {
+    bytes: &'a [u8],
+}
+
+impl<'a> Section<'a> {
+    // Its rows, where it is a section of rows.
+    pub fn rows(self) -> SectionRows<'a>
+        ensures { result.bytes.now ≡ self.entry.bytes.now }
+    {
+        SectionRows { bytes: self.bytes }
+    }
+}
+
+impl<'a> Iterator for SectionRows<'a> {
+    type Item = Row<'a>;
+
+    ghost next_gives = { λ s row t. GivesRow s.bytes.now row t.bytes.now };
+
+    ghost remaining = { λ s. at_most (length s.bytes.now) };
+
+    fn next(&mut self) -> Option<Row<'a>> {
+        let [symbol, length, rest @ ..] = self.bytes else {
+            return None;
+        };
+        let (word, rest) = rest.split_at_checked(usize::from(*length))?;
+        self.bytes = rest;
+        Some(Row {
+            symbol: *symbol,
+            word,
+        })
+    }
 }

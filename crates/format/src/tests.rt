@@ -64,3 +64,27 @@ fn what_has_no_room_stays(rt: HostRuntime) {
     assert_eq!(rt; encode_into(&contents, &mut long), Some(6));
     assert_eq!(rt; long, [1, b'b', 0, 0, 0, 0, 9]);
 }
+
+// The rows of a section come one by one, and none behind the last.
+#[test]
+fn rows_one_by_one(rt: HostRuntime) {
+    let bytes = [2, 1, 1, 0, 2, 2, 0, 1, 9];
+    match rows_section(9, &bytes, 3) {
+        Ok((section, left)) => {
+            let mut rows = section.rows();
+            let first = Row {
+                symbol: 1,
+                word: &[0],
+            };
+            let second = Row {
+                symbol: 2,
+                word: &[0, 1],
+            };
+            assert_eq!(rt; rows.next(), Some(first));
+            assert_eq!(rt; rows.next(), Some(second));
+            assert_eq!(rt; rows.next(), None);
+            assert_eq!(rt; left, &[9][..]);
+        }
+        Err(_) => assert!(rt; false),
+    }
+}

@@ -10,6 +10,7 @@ use Rattle.rows.proofs.Normals.{normal_once, rows_filled, ranked_total}
 use Rattle.rows.proofs.Sound.{true_row, same_words}
 use Rattle.rows.proofs.More.{alike_more, meets_more}
 use Rattle.rows.proofs.Marks.{fewer}
+use Rattle.rows.proofs.Replacing.{norm_kept, known_kept, normal_word, row_unused, normal_grown, normals_grown}
 
 module _ {T : Type 0} (𝓣 : Group T) (M : Meaning T) (F : WellFormed M) where
   -- at a byte that is no letter there is no rule
@@ -47,4 +48,10 @@ rows_law 𝓣 M norm F positive = record {
   more_prove = λ D E more r x y p.
       let n = alike_more 𝓣 D E more (ranked_total M.count norm positive 𝓣 E r) x y p.0 p.1 p.1 p.2 p.3 in
       (n.0, 𝓣.add p.1 n.1, n.2, n.3);
+  norm_kept = λ D r x z s f. norm_kept 𝓣 M.count norm D r f;
+  below_kept = λ D r x z s f. known_kept 𝓣 M.count norm D r f;
+  normal_word = λ D n ρ f x h. normal_word 𝓣 D n ρ f x h;
+  row_unused = λ D E A m grown r z s f. row_unused 𝓣 M.count norm positive D E r A m grown f;
+  normal_grown = λ D E A m grown z s f x y t h. normal_grown 𝓣 D E A m grown z s f h;
+  normals_grown = λ D E A m grown r n ρ f z s h. normals_grown 𝓣 M.count norm positive D E r A m grown n ρ f z s h;
 }

@@ -1,2 +1,4 @@
 pub mod Sheets
+pub mod Replacing
 pub mod Laws
+pub mod Example
