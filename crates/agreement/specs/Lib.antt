@@ -1,0 +1,3 @@
+pub mod Forms
+pub mod Works
+pub mod Agreeing
