@@ -1,0 +1,5 @@
+pub mod Alike
+pub mod Forks
+pub mod History
+pub mod Laws
+pub mod Example
