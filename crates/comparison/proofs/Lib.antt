@@ -1,0 +1,9 @@
+pub mod Mending
+pub mod Forks
+pub mod Treated
+pub mod RowSides
+pub mod Turns
+pub mod GivenPair
+pub mod Agreements
+pub mod Linking
+pub mod Goings

@@ -1,0 +1,4 @@
+pub mod Treating
+pub mod Turning
+pub mod Agreed
+pub mod Deciding
