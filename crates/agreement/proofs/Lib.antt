@@ -6,3 +6,4 @@ pub mod ShortRuns
 pub mod Cutting
 pub mod Sides
 pub mod FirstWrong
+pub mod Untouched

@@ -4,6 +4,7 @@
 -- or_itself 𝓣 A o        what a form puts for A; A itself, with zero, where there is none
 -- puts 𝓣 fs              what forms put for each symbol; a symbol without one is left
 -- refilled 𝓣 σ m         m with what σ puts for the symbols of its word
+-- IsItselfBut 𝓣 A σ      σ leaves every symbol but A as it is
 -- Passed 𝓣 σ os ns k     of the forms os those below k are refilled by σ in ns, where that has room; the others are the same
 -- replaced 𝓣 ρ w         w with the words of ρ for its symbols, and the sum of their tallies
 --
@@ -33,6 +34,9 @@ replaced 𝓣 ρ w = record { word = put ρ w; tally = gain 𝓣 ρ w }
 
 abbrev pub refilled : {T : Type 0} → Group T → Replacing T → Weighted T → Weighted T
 refilled 𝓣 σ m = record { word = put σ m.word; tally = 𝓣.add m.tally (gain 𝓣 σ m.word) }
+
+abbrev pub IsItselfBut : {T : Type 0} → Group T → ℕ → Replacing T → Type 0
+IsItselfBut 𝓣 A σ = (C : ℕ) → ¬ (C ≡ A) → σ C ≡ record { word = C ∷ []; tally = 𝓣.zero }
 
 pub record Passed {T : Type 0} (𝓣 : Group T) (σ : Replacing T) (os ns : List (Form T 64)) (k : ℕ) : Type 0 where
   pub long : length ns ≡ length os

@@ -3,7 +3,7 @@ ghost use Rattle.std.specs.Prelude.{◌≡◌, ℕ, ◌<◌, ◌≤◌, [], ◌�
 ghost use Rattle.std.specs.Option.{option_map};
 ghost use Rattle.grammar.specs.WordStacks.{held};
 ghost use Rattle.rows.specs.Replacing.{put};
-ghost use Rattle.agreement.specs.Forms.{form_of, puts, or_itself, replaced, refilled, Passed};
+ghost use Rattle.agreement.specs.Forms.{form_of, puts, or_itself, replaced, refilled, IsItselfBut, Passed};
 
 use crate::form::Form;
 use crate::forms::Forms;
@@ -83,12 +83,15 @@ impl<T: Tally> Forms<T> {
         shortened(&new, form.sum.add(new.sum))
     }
 
-    // Puts other forms in every form, in one pass.
-    pub(crate) fn refill(&mut self, by: &Forms<T>)
-        ensures { Passed T.Tally.group (puts T.Tally.group by.now) self.old.forms self.new.forms 32 }
+    // Puts other forms in every form, in one pass. They put something else for the one symbol only, so forms that do
+    // not name it stay as they are.
+    pub(crate) fn refill(&mut self, symbol: u8, by: &Forms<T>)
+        ensures { IsItselfBut T.Tally.group symbol (puts T.Tally.group by.now) → Passed T.Tally.group (puts T.Tally.group by.now) self.old.forms self.new.forms 32 }
     {
         for form in self.forms.iter_mut() {
-            *form = by.refilled(form);
+            if form.word.word().contains(&symbol) {
+                *form = by.refilled(form);
+            }
         }
     }
 }

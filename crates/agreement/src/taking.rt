@@ -46,7 +46,7 @@ impl<T: Tally> Workspace<T> {
         let normal = self.forms.replace(word);
         let mut row = Forms::plain();
         row.set(symbol, shortened(&normal, offset.add(normal.sum)));
-        self.forms.refill(&row);
+        self.forms.refill(symbol, &row);
         if symbol < 32 {
             self.offsets[symbol as usize] = offset;
         }

@@ -27,7 +27,7 @@ module _ {T : Type 0} (𝓣 : Group T) (s : Survey T) (V : View) where
   view_row A w e = ap (option_map (λ w. record { word = w; tally = offset 𝓣 (surveyed s) (first_in s) A w })) e
 
   module _ (w : Workspace T) (ready : Ready 𝓣 s V w) (x y : Word) (given_x : history.Given (surveyed s) x) (given_y : history.Given (surveyed s) y) where
-    small : (z : Word) → history.Given (surveyed s) z → norms (norm_in s) z ≤ 512
+    pub small : (z : Word) → history.Given (surveyed s) z → norms (norm_in s) z ≤ 512
     small z h = let b = norms_bound (norm_in s) s.skeleton.words.count 64 (λ A l. s.skeleton.small A l) z h.0 in let l = h.1 in omega arith
 
     pub given_treated : (p q : T) → p ≡ 𝓣.zero → q ≡ 𝓣.zero → (t : Treatment) →

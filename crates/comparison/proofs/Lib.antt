@@ -6,4 +6,13 @@ pub mod Turns
 pub mod GivenPair
 pub mod Agreements
 pub mod Linking
+pub mod Parted
+pub mod PairTried
+pub mod Looked
+pub mod Leads
+pub mod Tried
+pub mod Completing
+pub mod Ranges
+pub mod Trails
 pub mod Goings
+pub mod Leading

@@ -3,34 +3,32 @@ use Rattle.std.proofs.Common.{◌≡◌, ℕ, ◌+◌, ◌<◌, ◌≤◌, [], �
 use Rattle.std.proofs.lemmas.Bool.{cases_lt}
 use Rattle.tally.specs.Group.{Group}
 use Rattle.grammar.specs.Meaning.{Word, Weighted, Below}
-use Rattle.grammar.specs.Takes.{step, takes}
+use Rattle.grammar.specs.Takes.{step}
 use Rattle.grammar.proofs.Options.{none_some, some_none, some_same}
 use Rattle.norm.specs.Tabled.{held}
 use Rattle.norm.specs.declared.short_word.ShortWord.{ShortWord}
 use Rattle.norm.specs.Words.{ran, raised}
-use Rattle.norm.specs.Norms.{norms, Taken, Earlier}
-use Rattle.norm.proofs.Weights.{each_front, each_back}
+use Rattle.norm.specs.Norms.{norms}
 use Rattle.rows.specs.Sheets.{View, Sheet, offset, Normal}
 use Rattle.rows.specs.Replacing.{Grown}
-use Rattle.rows.proofs.Normals.{to, normal_plain}
-use Rattle.rows.proofs.Replacing.{known_kept}
 use Rattle.survey.specs.Surveyed.{surveyed, norm_in, first_in}
 use Rattle.survey.specs.declared.table.Survey.{Survey}
-use Rattle.survey.proofs.Holding.{laws_in, normed_in}
+use Rattle.survey.proofs.Holding.{laws_in}
 use Rattle.agreement.specs.Works.{rows_over}
 use Rattle.agreement.specs.Agreeing.{Ready}
 use Rattle.agreement.specs.declared.workspace.Workspace.{Workspace}
 use Rattle.agreement.proofs.Cutting.{view_ranked}
 use Rattle.agreement.proofs.Sides.{after_known, own_known, behind_nothing}
-use Rattle.witness.specs.Forks.{Fork}
 use Rattle.witness.specs.History as history
-use Rattle.comparison.specs.Treating.{ForkAt, Mends, cannot_read, other_norm, misses_first, row, Treats, unlike_norms, unlike_sums, later_one, later_two}
+use Rattle.comparison.specs.Treating.{Mends, cannot_read, other_norm, misses_first, row, Treats, unlike_norms, unlike_sums, later_one, later_two}
 use Rattle.comparison.specs.Turning.{row_sides, sides, IsLook, TreatsAt, no_rule, only_one, only_two, both}
 use Rattle.comparison.specs.declared.origin.Origin.{Origin}
 use Rattle.comparison.specs.declared.origin.Origin.TheVariants.{Given, Row}
 use Rattle.comparison.specs.declared.treatment.Treatment.{Treatment}
 use Rattle.comparison.specs.declared.treatment.Treatment.TheVariants.{Agree, Different, Mend}
 use Rattle.comparison.proofs.RowSides.{word_known}
+use Rattle.comparison.proofs.Parted.{Parted}
+use Rattle.comparison.proofs.Parted as parted
 
 -- what is done differs
 different_agree : ¬ (◌≡◌ {A = Treatment} Different Agree)
@@ -44,11 +42,11 @@ mend_different e = cc
 
 module _ {T : Type 0} (𝓣 : Group T) where
   -- a step with a tally added is that step
-  raised_some : (t : T) (o : Option (Weighted T)) (q : Weighted T) → raised 𝓣 t o ≡ Some q → (u : Weighted T) × (o ≡ Some u) × (record { word = u.word; tally = 𝓣.add t u.tally } ≡ q)
+  pub raised_some : (t : T) (o : Option (Weighted T)) (q : Weighted T) → raised 𝓣 t o ≡ Some q → (u : Weighted T) × (o ≡ Some u) × (record { word = u.word; tally = 𝓣.add t u.tally } ≡ q)
   raised_some t None q e = absurd (none_some e)
   raised_some t (Some u) q e = (u, refl, some_same e)
 
-  raised_none : (t : T) (o : Option (Weighted T)) → raised 𝓣 t o ≡ None → o ≡ None
+  pub raised_none : (t : T) (o : Option (Weighted T)) → raised 𝓣 t o ≡ None → o ≡ None
   raised_none t None e = refl
   raised_none t (Some u) e = absurd (some_none e)
 
@@ -110,95 +108,44 @@ module _ {T : Type 0} (𝓣 : Group T) where
     Mended C w = (C < s.skeleton.words.count) × (D C ≡ None) × ((E : Sheet T) → Grown D C (record { word = held w; tally = offset 𝓣 (surveyed s) (first_in s) C (held w) }) E →
         history.Written 𝓣 (surveyed s) (norm_in s) (first_in s) x y D E)
 
-    -- a pair with normal forms apart at A and the earlier B
-    module _ (P : Pairs) (z v : Word) (t r : T) (A B : ℕ) (one : Normal 𝓣 D P.first z t) (two : Normal 𝓣 D P.second v r) (fork : ForkAt z v A B) (order : Earlier (norm_in s) B A)
-        (known_first : Below s.skeleton.words.count P.first) (known_second : Below s.skeleton.words.count P.second) where
-      later_normal : Normal 𝓣 D P.first (fork.common ++ (A ∷ fork.left)) t
-      later_normal = to 𝓣 D fork.one one
+    -- a pair whose normal forms part at A and the earlier B
+    module _ (P : Pairs) (z v : Word) (t r : T) (A B : ℕ) (h : Parted 𝓣 (surveyed s) (norm_in s) D P.first P.second z v t r A B) where
+      later : Normal 𝓣 D P.first (h.fork.common ++ (A ∷ h.fork.left)) t
+      later = parted.later_normal 𝓣 (surveyed s) (norm_in s) (first_in s) (laws_in s 𝓣) D (view_ranked 𝓣 s V ready.ranked) P.first P.second z v t r A B h
 
-      earlier_normal : Normal 𝓣 D P.second (fork.common ++ (B ∷ fork.right)) r
-      earlier_normal = to 𝓣 D fork.two two
-
-      later_known : Below s.skeleton.words.count (fork.common ++ (A ∷ fork.left))
-      later_known = known_kept 𝓣 s.skeleton.words.count (norm_in s) D (view_ranked 𝓣 s V ready.ranked) later_normal known_first
-
-      earlier_known : Below s.skeleton.words.count (fork.common ++ (B ∷ fork.right))
-      earlier_known = known_kept 𝓣 s.skeleton.words.count (norm_in s) D (view_ranked 𝓣 s V ready.ranked) earlier_normal known_second
-
-      later_end : Below s.skeleton.words.count (A ∷ fork.left)
-      later_end = each_back (λ C. C < s.skeleton.words.count) fork.common (A ∷ fork.left) later_known
-
-      earlier_end : Below s.skeleton.words.count (B ∷ fork.right)
-      earlier_end = each_back (λ C. C < s.skeleton.words.count) fork.common (B ∷ fork.right) earlier_known
-
-      -- the later symbol has no row
-      later_free : D A ≡ None
-      later_free = (each_back (λ C. D C ≡ None) fork.common (A ∷ fork.left) (normal_plain 𝓣 D later_normal)).0
+      earlier : Normal 𝓣 D P.second (h.fork.common ++ (B ∷ h.fork.right)) r
+      earlier = parted.earlier_normal 𝓣 (surveyed s) (norm_in s) (first_in s) (laws_in s 𝓣) D (view_ranked 𝓣 s V ready.ranked) P.first P.second z v t r A B h
 
       module _ (m : Weighted T) (runs : ran 𝓣 (surveyed s) (A ∷ []) (first_in s B) ≡ Some m) where
-        -- what is left is not too light
         no_lighter : norm_in s A ≤ norm_in s B + norms (norm_in s) m.word
-        no_lighter =
-            let h = (laws_in s 𝓣).run_lowers (A ∷ []) (first_in s B) m runs in
-            let e = (normed_in s 𝓣).size B earlier_end.0 in
-            omega arith
+        no_lighter = parted.no_lighter 𝓣 (surveyed s) (norm_in s) (first_in s) (laws_in s 𝓣) D (view_ranked 𝓣 s V ready.ranked) P.first P.second z v t r A B h m runs
 
-        module _ (weighs : norm_in s B + norms (norm_in s) m.word ≡ norm_in s A) where
-          abbrev fork_at : Fork 𝓣 (surveyed s) (norm_in s) (first_in s)
-          fork_at = record {
-            common = fork.common;
-            later = A;
-            earlier = B;
-            later_end = fork.left;
-            earlier_end = fork.right;
-            later_sum = 𝓣.add P.first_sum t;
-            earlier_sum = 𝓣.add P.second_sum r;
-            left = m;
-            runs = runs;
-            order = order;
-            weighs = weighs;
-            later_known = later_end.0;
-            earlier_known = earlier_end.0;
-            common_known = each_front (λ C. C < s.skeleton.words.count) fork.common (A ∷ fork.left) later_known;
-            end_known = later_end.1;
-          }
-
-          abbrev apart : history.Apart 𝓣 (surveyed s) (norm_in s) (first_in s) x y D
-          apart = record {
-            pair = P;
-            fork = fork_at;
-            fork_of = record { one = t; two = r; normal_one = later_normal; normal_two = earlier_normal; sum_one = refl; sum_two = refl };
-          }
-
-          untaken : ¬ Taken 𝓣 (surveyed s) (B ∷ m.word) (first_in s A) → takes 𝓣 (surveyed s) (B ∷ m.word) (first_in s A) ≡ None
-          untaken none = go (takes 𝓣 (surveyed s) (B ∷ m.word) (first_in s A)) refl
-            where
-              go : (o : Option T) → takes 𝓣 (surveyed s) (B ∷ m.word) (first_in s A) ≡ o → o ≡ None
-              go None e = refl
-              go (Some c) e = absurd (none (c, e))
+        abbrev apart : norm_in s B + norms (norm_in s) m.word ≡ norm_in s A → history.Apart 𝓣 (surveyed s) (norm_in s) (first_in s) x y D
+        apart weighs = record {
+          pair = P;
+          fork = parted.fork_at 𝓣 (surveyed s) (norm_in s) (first_in s) (laws_in s 𝓣) D (view_ranked 𝓣 s V ready.ranked) P.first P.second z v t r A B h P.first_sum P.second_sum m runs weighs;
+          fork_of = parted.fork_of 𝓣 (surveyed s) (norm_in s) (first_in s) (laws_in s 𝓣) D (view_ranked 𝓣 s V ready.ranked) P.first P.second z v t r A B h P.first_sum P.second_sum m runs weighs;
+        }
 
       -- where nothing can be done the comparison ends
       fork_ends : norms (norm_in s) P.first ≡ norms (norm_in s) P.second → Mends 𝓣 (surveyed s) (norm_in s) (first_in s) A B Different → Ending
-      fork_ends even (cannot_read e) = history.no_run P A B fork.common fork.left fork.right t r later_normal earlier_normal order e
+      fork_ends even (cannot_read e) = history.no_run P A B h.fork.common h.fork.left h.fork.right t r later earlier h.order e
       fork_ends even (other_norm m e ne) =
-          history.too_heavy P A B fork.common fork.left fork.right t r m later_normal earlier_normal even e
+          history.too_heavy P A B h.fork.common h.fork.left h.fork.right t r m later earlier even e
           (let l = no_lighter m e in let less : norm_in s A < norm_in s B + norms (norm_in s) m.word = omega (arith, ne) in less)
-      fork_ends even (misses_first m e weighs none) = history.no_offset (apart m e weighs) (untaken m e weighs none)
+      fork_ends even (misses_first m e weighs none) = history.no_offset (apart m e weighs) (parted.untaken 𝓣 (surveyed s) (norm_in s) (first_in s) A B m none)
 
       -- and a row is that of the fork
       fork_writes : (C : ℕ) (w : ShortWord 64) → Mends 𝓣 (surveyed s) (norm_in s) (first_in s) A B (Mend C w) → Mended C w
       fork_writes C w (row m _ runs weighs taken is) = (
-        later_end.0,
-        later_free,
+        (parted.later_end 𝓣 (surveyed s) (norm_in s) (first_in s) (laws_in s 𝓣) D (view_ranked 𝓣 s V ready.ranked) P.first P.second z v t r A B h).0,
+        parted.later_free 𝓣 (surveyed s) (norm_in s) (first_in s) (laws_in s 𝓣) D (view_ranked 𝓣 s V ready.ranked) P.first P.second z v t r A B h,
         λ E g. record {
           apart = apart m runs weighs;
           taken = taken;
           grown = subst (λ v. Grown D A (record { word = v; tally = offset 𝓣 (surveyed s) (first_in s) A v }) E) is g;
         },
       )
-
-    turned : (z v : Word) (A B : ℕ) → ForkAt z v A B → ForkAt v z B A
-    turned z v A B f = record { common = f.common; left = f.right; right = f.left; one = f.two; two = f.one; apart = λ e. f.apart (sym e) }
 
     abbrev Treated : Weighted T → Weighted T → Treatment → Type 0
     Treated p q = Treats 𝓣 (surveyed s) (norm_in s) (first_in s) D (record { one = p.word; two = q.word; before_one = p.tally; before_two = q.tally })
@@ -209,12 +156,16 @@ module _ {T : Type 0} (𝓣 : Group T) where
       | inr h ↦ history.unlike_norms (two_first p q l) (let less : norms (norm_in s) q.word < norms (norm_in s) p.word = omega (arith, ne) in less)
     ]
     pair_ends p q l (unlike_sums z t r even f g ne) = history.unlike_sums (one_first p q l) z t r f g ne
-    pair_ends p q l (later_one z v t r A B _ even f g fork order m) = fork_ends (one_first p q l) z v t r A B f g fork order l.known_one l.known_two even m
-    pair_ends p q l (later_two z v t r A B _ even f g fork order m) = fork_ends (two_first p q l) v z r t B A g f (turned z v A B fork) order l.known_two l.known_one (sym even) m
+    pair_ends p q l (later_one z v t r A B _ even f g fork order m) =
+        fork_ends (one_first p q l) z v t r A B (record { one = f; two = g; fork = fork; order = order; known_one = l.known_one; known_two = l.known_two }) even m
+    pair_ends p q l (later_two z v t r A B _ even f g fork order m) =
+        fork_ends (two_first p q l) v z r t B A (record { one = g; two = f; fork = parted.turned fork; order = order; known_one = l.known_two; known_two = l.known_one }) (sym even) m
 
     pair_writes : (p q : Weighted T) → Led p q → (C : ℕ) (w : ShortWord 64) → Treated p q (Mend C w) → Mended C w
-    pair_writes p q l C w (later_one z v t r A B _ even f g fork order m) = fork_writes (one_first p q l) z v t r A B f g fork order l.known_one l.known_two C w m
-    pair_writes p q l C w (later_two z v t r A B _ even f g fork order m) = fork_writes (two_first p q l) v z r t B A g f (turned z v A B fork) order l.known_two l.known_one C w m
+    pair_writes p q l C w (later_one z v t r A B _ even f g fork order m) =
+        fork_writes (one_first p q l) z v t r A B (record { one = f; two = g; fork = fork; order = order; known_one = l.known_one; known_two = l.known_two }) C w m
+    pair_writes p q l C w (later_two z v t r A B _ even f g fork order m) =
+        fork_writes (two_first p q l) v z r t B A (record { one = g; two = f; fork = parted.turned fork; order = order; known_one = l.known_two; known_two = l.known_one }) C w m
 
     -- one side only is that of a row
     abbrev Sides : Type 0

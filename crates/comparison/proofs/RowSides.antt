@@ -1,5 +1,5 @@
 -- The two sides of a row at a letter, as runs of one letter give them. Assumes nothing.
-use Rattle.std.proofs.Common.{◌≡◌, ℕ, ◌+◌, ◌≤◌, length, option_map, [], ◌∷◌, Some, Option, ap, ◌∙◌, arith}
+use Rattle.std.proofs.Common.{◌≡◌, ℕ, ◌+◌, ◌≤◌, length, option_map, [], ◌∷◌, Some, None, Option, refl, ap, ◌∙◌, arith}
 use Rattle.tally.specs.Group.{Group}
 use Rattle.grammar.specs.Meaning.{Word, Weighted, Below}
 use Rattle.grammar.specs.Takes.{step}
@@ -17,6 +17,11 @@ use Rattle.comparison.specs.Treating.{Pair, Workable, Treats}
 use Rattle.comparison.specs.Turning.{TreatsSides, both}
 use Rattle.comparison.specs.declared.treatment.Treatment.{Treatment}
 
+-- zero before a tally
+raised_zero : {T : Type 0} (𝓣 : Group T) (o : Option (Weighted T)) → raised 𝓣 𝓣.zero o ≡ o
+raised_zero 𝓣 None = refl
+raised_zero 𝓣 (Some m) = ap (λ t. Some (record { word = m.word; tally = t })) (𝓣.left m.tally)
+
 module _ {T : Type 0} (𝓣 : Group T) (s : Survey T) (V : View) (w : Workspace T) (ready : Ready 𝓣 s V w) (A a : ℕ) (m : Weighted T) (row : rows_over 𝓣 s V A ≡ Some m) where
   pub word_known : Below s.skeleton.words.count m.word
   word_known = (ready.ranked A m.word (row_word 𝓣 s V w ready A m row)).below
@@ -32,12 +37,27 @@ module _ {T : Type 0} (𝓣 : Group T) (s : Survey T) (V : View) (w : Workspace 
       let size = ap length e in
       runs (omega arith) ∙ ap (λ y. ran 𝓣 (surveyed s) y (a ∷ [])) e ∙ one_ran 𝓣 (surveyed s) m.word a
 
+  -- the same of steps with a sum before their tallies
+  own_step : step (surveyed s) (A ∷ []) a ≡ (surveyed s).rule A a
+  own_step = behind_nothing 𝓣 ((surveyed s).rule A a)
+
+  pub own_side : (t : T) → t ≡ 𝓣.zero → (o : Option (Weighted T)) → (4 ≤ 512 → o ≡ raised 𝓣 t (step (surveyed s) (A ∷ []) a)) → o ≡ (surveyed s).rule A a
+  own_side t e o is = is (omega arith) ∙ ap (λ z. raised 𝓣 z (step (surveyed s) (A ∷ []) a)) e ∙ raised_zero 𝓣 (step (surveyed s) (A ∷ []) a) ∙ own_step
+
+  pub other_side : (x : Word) → x ≡ m.word → (t : T) → t ≡ m.tally → (o : Option (Weighted T)) → (length x + 3 ≤ 512 → o ≡ raised 𝓣 t (step (surveyed s) x a)) →
+      o ≡ raised 𝓣 m.tally (step (surveyed s) m.word a)
+  other_side x e t f o is =
+      let long = (laws_in s 𝓣).long_enough m.word word_known in
+      let small = other_small 𝓣 s V w ready A a m row in
+      let size = ap length e in
+      is (omega arith) ∙ ap (λ y. raised 𝓣 t (step (surveyed s) y a)) e ∙ ap (λ z. raised 𝓣 z (step (surveyed s) m.word a)) f
+
   module _ (p q : Weighted T) (own : (surveyed s).rule A a ≡ Some p) (other : step (surveyed s) m.word a ≡ Some q) where
     abbrev pub row_pair : Pair T
     row_pair = record { one = p.word; two = q.word; before_one = p.tally; before_two = 𝓣.add m.tally q.tally }
 
     own_stepped : step (surveyed s) (A ∷ []) a ≡ Some p
-    own_stepped = behind_nothing 𝓣 ((surveyed s).rule A a) ∙ own
+    own_stepped = own_step ∙ own
 
     pub row_workable : Workable s.skeleton.words.count (norm_in s) row_pair
     row_workable = record {

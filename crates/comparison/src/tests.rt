@@ -6,6 +6,7 @@ use std::alloc::{AllocError, Global};
 use std::test::Fail;
 use survey::{GrammarFault, survey};
 use tally::FootMm;
+use walk::Letters;
 
 // A rule whose word is the first `length` of the symbols.
 fn rule(symbol: u8, letter: u8, length: u8, symbols: [u8; 5], mm: u32) -> RuleRecord<FootMm> {
@@ -68,17 +69,25 @@ fn no_powers(heap: Global) -> Result<ListGrammar<FootMm>, AllocError> {
     Ok(ListGrammar::new(4, Vec::from_slice(heap, &rules)?))
 }
 
-// The verdict on two words over a sheet without rows, and the sheet afterwards.
-fn decided(
-    g: &ListGrammar<FootMm>,
-    one: &[u8],
-    two: &[u8],
-) -> Result<(Verdict, Sheet), GrammarFault> {
+// What comes of two words over a sheet without rows: the verdict, the sheet afterwards, and the input found.
+#[derive(Drop)]
+struct Compared {
+    verdict: Verdict,
+    sheet: Sheet,
+    found: Letters,
+}
+
+fn decided(g: &ListGrammar<FootMm>, one: &[u8], two: &[u8]) -> Result<Compared, GrammarFault> {
     let survey = survey(g)?;
     let mut sheet = Sheet::empty();
     let mut work = Workspace::new(&survey, sheet.view());
-    let verdict = decide(&survey, &mut sheet, &mut work, one, two);
-    Ok((verdict, sheet))
+    let mut found = Letters::new();
+    let verdict = decide(&survey, &mut sheet, &mut work, one, two, &mut found);
+    Ok(Compared {
+        verdict,
+        sheet,
+        found,
+    })
 }
 
 // The verdict on two words, and how many rows it leaves.
@@ -87,8 +96,8 @@ fn verdict(
     one: &[u8],
     two: &[u8],
 ) -> Result<(Verdict, u32), GrammarFault> {
-    let (verdict, sheet) = decided(g, one, two)?;
-    Ok((verdict, sheet.count()))
+    let compared = decided(g, one, two)?;
+    Ok((compared.verdict, compared.sheet.count()))
 }
 
 // The verdict on two words, and the only row it leaves: its symbol and the only symbol of its word.
@@ -97,8 +106,20 @@ fn with_row(
     one: &[u8],
     two: &[u8],
 ) -> Result<(Verdict, Option<(u8, u8)>), GrammarFault> {
-    let (verdict, sheet) = decided(g, one, two)?;
-    Ok((verdict, only_row(&sheet)))
+    let compared = decided(g, one, two)?;
+    Ok((compared.verdict, only_row(&compared.sheet)))
+}
+
+// Whether the words are different, and this input is shown.
+fn shows(
+    g: &ListGrammar<FootMm>,
+    one: &[u8],
+    two: &[u8],
+    input: &[u8],
+) -> Result<bool, GrammarFault> {
+    let compared = decided(g, one, two)?;
+    let found = compared.found.as_slice();
+    Ok(compared.verdict == Verdict::Different && found == input)
 }
 
 // The row of a sheet that has just one: its symbol and the only symbol of its word.
@@ -134,14 +155,26 @@ fn different(rt: HostRuntime) -> Result<(), Fail> {
     Ok(())
 }
 
+// The inputs that are shown: b takes SLL and e does not; b and f take L with two tallies, and so do k and q PL; b does
+// not take the empty input.
+#[test]
+fn shown_inputs(rt: HostRuntime) -> Result<(), Fail> {
+    let g = seven_symbols(rt.alloc())?;
+    assert_eq!(rt; shows(&g, &[0], &[3], b"SLL"), Ok(true));
+    assert_eq!(rt; shows(&g, &[0], &[4], b"L"), Ok(true));
+    assert_eq!(rt; shows(&g, &[5], &[6], b"PL"), Ok(true));
+    assert_eq!(rt; shows(&g, &[], &[0], b""), Ok(true));
+    Ok(())
+}
+
 // V and Z: both three times X in the first grammar, not the same in the second.
 #[test]
 fn four_symbols(rt: HostRuntime) -> Result<(), Fail> {
     let g = powers(rt.alloc())?;
-    let (verdict, _) = decided(&g, &[3], &[2]).ok().expect(&rt, "it is accepted");
-    assert_eq!(rt; verdict, Verdict::Same);
+    let compared = decided(&g, &[3], &[2]).ok().expect(&rt, "it is accepted");
+    assert_eq!(rt; compared.verdict, Verdict::Same);
     let g = no_powers(rt.alloc())?;
-    let (verdict, _) = decided(&g, &[3], &[2]).ok().expect(&rt, "it is accepted");
-    assert_eq!(rt; verdict, Verdict::Different);
+    let compared = decided(&g, &[3], &[2]).ok().expect(&rt, "it is accepted");
+    assert_eq!(rt; compared.verdict, Verdict::Different);
     Ok(())
 }

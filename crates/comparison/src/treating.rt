@@ -21,7 +21,11 @@ use tally::Tally;
 
 // The earlier symbol and what is left when its first input is read from the later one; none if it cannot be
 // read.
-fn read_row<T: Tally>(survey: &Survey<T>, later: u8, earlier: u8) -> Option<WordStack<512>>
+pub(crate) fn read_row<T: Tally>(
+    survey: &Survey<T>,
+    later: u8,
+    earlier: u8,
+) -> Option<WordStack<512>>
     ensures { later < survey.now.skeleton.words.count → earlier < survey.now.skeleton.words.count → MatchOption result (ran T.Tally.group (surveyed survey.now) (later ∷ []) (first_in survey.now earlier) ≡ None) (λ w. (m : Weighted T) × (ran T.Tally.group (surveyed survey.now) (later ∷ []) (first_in survey.now earlier) ≡ Some m) × (held w ≡ earlier ∷ m.word)) }
 {
     let mut letters = [0; 64];

@@ -1,4 +1,4 @@
-// One turn of a comparison.
+// The first pair that does not agree.
 ghost use Rattle.grammar.specs.Meaning.{Below};
 ghost use Rattle.sheet.specs.Rowed.{shown};
 ghost use Rattle.survey.specs.Surveyed.{surveyed, norm_in, first_in};
@@ -14,21 +14,15 @@ use crate::origin::Origin;
 use crate::pair::Pair;
 use crate::treating::treat;
 use crate::treatment::Treatment;
+use crate::words::Words;
 use agreement::Workspace;
 use sheet::SheetView;
 use survey::Survey;
 use tally::Tally;
 
-// The words that are compared.
-#[derive(Clone, Copy)]
-pub(crate) struct Words<'a> {
-    pub(crate) one: &'a [u8],
-    pub(crate) two: &'a [u8],
-}
-
 // The first pair that does not agree, in the order in which they are looked at, and what is done with it; none
 // where all agree. What is known to agree is not looked at again.
-pub(crate) fn turn<T: Tally>(
+pub(crate) fn first_wrong_pair<T: Tally>(
     survey: &Survey<T>,
     work: &Workspace<T>,
     rows: SheetView<'_>,

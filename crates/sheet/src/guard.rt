@@ -53,7 +53,8 @@ impl<'a> MarkGuard<'a> {
 impl MarkGuard<'_> {
     // The rows now, lent.
     pub fn view(&self) -> SheetView<'_>
-        ensures { (A : ℕ) → shown result A ≡ shows self.now.sheet.now A }
+        ensures view { (A : ℕ) → shown result A ≡ shows self.now.sheet.now A }
+        ensures rows { result.rows.now ≡ self.now.sheet.now.rows }
     {
         self.sheet.view()
     }

@@ -33,7 +33,8 @@ impl<'a> SheetView<'a> {
 impl Sheet {
     // The marked rows, lent.
     pub fn view(&self) -> SheetView<'_>
-        ensures { (A : ℕ) → shown result A ≡ shows self.now A }
+        ensures view { (A : ℕ) → shown result A ≡ shows self.now A }
+        ensures rows { result.rows.now ≡ self.now.rows }
     {
         SheetView {
             rows: &self.rows,

@@ -2,6 +2,7 @@ use Rattle.std.proofs.Common.{◌==◌, cond, length, refl, ap, ap₂, ◌∙◌
 use Rattle.grammar.specs.Meaning.{Weighted}
 use Rattle.agreement.specs.Forms.{puts}
 use Rattle.agreement.proofs.Grown.{grown_works, row_symbol}
+use Rattle.agreement.proofs.Untouched.{one_set}
 use Rattle.agreement.proofs.workspace.Workspace.add_row.Goals as goal
 
 pub returns-then-symbol-lt32 : goal.returns-then-symbol-lt32
@@ -17,7 +18,7 @@ returns-then-symbol-lt32 g c = λ n norm D E within ranked grown works.
     ∙ ap₂ (λ (x y : Weighted g.row.T.Denot). cond (C == A) x y)
     (c.shortened.ensures (let size = ap (λ (x : Weighted g.row.T.Denot). length x.word) new in omega arith) ∙ ap₂ (λ x y. record { word = x; tally = y }) (ap (λ (x : Weighted g.row.T.Denot). x.word) new) (c.add.ensures ∙ ap (λ (x : Weighted g.row.T.Denot). 𝓣.add c.args.offset x.tally) new))
     (c.plain-row.ensures C))
-    c.refill.ensures refl
+    (c.refill.ensures (one_set 𝓣 A _ _ _ c.plain-row.ensures (c.set.ensures c.if-symbol-lt32.true))) refl
 
 pub returns-else-symbol-lt32 : goal.returns-else-symbol-lt32
 returns-else-symbol-lt32 g c = λ n norm D E within ranked grown works.

@@ -5,7 +5,7 @@ use Rattle.agreement.specs.Works.{rows_over}
 use Rattle.agreement.specs.Agreeing.{Ready}
 use Rattle.comparison.specs.Agreed.{Kept}
 use Rattle.comparison.proofs.Turns.{AllBelow}
-use Rattle.comparison.proofs.turning.turn.Given as goal
+use Rattle.comparison.proofs.turning.first_wrong_pair.Given as goal
 
 abbrev pub invariant-loop-symbol : goal.invariant-loop-symbol
 invariant-loop-symbol g l =

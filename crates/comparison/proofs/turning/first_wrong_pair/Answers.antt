@@ -9,7 +9,7 @@ use Rattle.comparison.specs.declared.origin.Origin.TheVariants.{Given}
 use Rattle.comparison.specs.declared.treatment.Treatment.TheVariants.{Agree}
 use Rattle.comparison.proofs.GivenPair.{no_row, row_of, view_row, given_treated}
 use Rattle.comparison.proofs.Turns.{row_agrees, below_more, sooner, letter, turned_row, turned_none, turned_given, kept_set}
-use Rattle.comparison.proofs.turning.turn.Goals as goal
+use Rattle.comparison.proofs.turning.first_wrong_pair.Goals as goal
 
 pub returns-then-not-agrees-clause-turned : goal.returns-then-not-agrees-clause-turned
 returns-then-not-agrees-clause-turned g c = λ ready given_x given_y kept.
