@@ -32,8 +32,9 @@ use Rattle.calls.specs.declared.fault.CallFault.TheVariants.{ShortCopy}
 use Rattle.calls.proofs.Ground.{Standing, ground}
 use Rattle.calls.proofs.Copies.{carries}
 use Rattle.calls.proofs.OneOffer.{never_both, same_rows}
-use Rattle.comparer.specs.Comparers.{rows_of, has_survey, Over, after_offer}
-use Rattle.comparer.specs.Lawful.{HistoryOver}
+use Rattle.sheet.specs.Candidates.{candidates}
+use Rattle.comparer.specs.Comparers.{rows_of, has_survey, Over, Without, offering, refused_offer, after_offer}
+use Rattle.comparer.specs.Lawful.{HistoryOver, Lawful}
 use Rattle.comparer.specs.declared.comparer.Comparer.{Comparer}
 use Rattle.comparer.specs.declared.desk.Desk.{Desk}
 use Rattle.comparer.specs.declared.refused.Refused.{Refused}
@@ -144,3 +145,22 @@ module _ {T : Type 0} (𝓣 : Group T) (c : Comparer T) (s : Survey T) (over : O
       let stands = stands_too 𝓣 s t (rows_of c) (m ∙ sym up.2) (history_stands 𝓣 s some es (rows_of c) h) in
       copy_taken 𝓣 t (over_some d t up.1) (rows_of c) (rows_of d) (rows_of e) stands empty r
       (subst (λ bs. after_offer 𝓣 t (rows_of d) bs r (rows_of e)) is (offer t up.1 (λ A w k. absurd (none_some (sym (empty A) ∙ k)))))
+
+-- what a new comparer is that took an offer
+module _ {T : Type 0} (𝓣 : Group T) (d e : Comparer T) (desk : e.desk ≡ d.desk) (bs : List ℕ) (r : Result (Unit {0}) CallFault) (is : r ≡ Ok tt) where
+  -- its grammar is not refused
+  pub grammar_kept : (M : Meaning T) → elim d.desk as (λ x. Type 0) [ Ok k ↦ Surveys 32 64 𝓣 M k.survey | Err q ↦ RefusedFor 32 64 𝓣 M q.fault × (q.count ≡ M.count) ] →
+      ((q : Refused) → Without d q → r ≡ Err (refused_offer q (candidates q.count bs))) → elim e.desk as (λ x. Type 0) [ Ok k ↦ Surveys 32 64 𝓣 M k.survey | Err q ↦ ⊥ ]
+  grammar_kept M value without = subst (λ (x : Result (Desk T) Refused). elim x as (λ y. Type 0) [ Ok k ↦ Surveys 32 64 𝓣 M k.survey | Err q ↦ ⊥ ]) (sym desk) (go d.desk refl value)
+    where
+      go : (x : Result (Desk T) Refused) → d.desk ≡ x → elim x as (λ y. Type 0) [ Ok k ↦ Surveys 32 64 𝓣 M k.survey | Err q ↦ RefusedFor 32 64 𝓣 M q.fault × (q.count ≡ M.count) ] →
+          elim x as (λ y. Type 0) [ Ok k ↦ Surveys 32 64 𝓣 M k.survey | Err q ↦ ⊥ ]
+      go (Ok k) f v = v
+      go (Err q) f v = absurd (ok_err (sym is ∙ without q f))
+
+  -- and a history leads to its rows
+  pub history_begun : ((s : Survey T) → Over d s → HistoryOver 𝓣 s [] (rows_of d)) → ((n : ℕ) (s : Survey T) → Over d s → n ≡ s.skeleton.words.count → Lawful 𝓣 d (offering n bs r) e) →
+      (t : Survey T) → Over e t → (es : List (Event T)) × HistoryOver 𝓣 t es (rows_of e)
+  history_begun begins lawful t o =
+      let over : Over d t = subst (λ (x : Result (Desk T) Refused). has_survey x t) desk o in
+      (offering t.skeleton.words.count bs r ∷ [], (lawful t.skeleton.words.count t over refl).history t over [] (begins t over))
