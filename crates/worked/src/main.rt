@@ -1,8 +1,9 @@
 // The worked examples as a program: a table of words and inputs over the example grammar and over
-// its twin with itself, the norms and first inputs of its symbols, and then the lines of standard input,
-// each of the form `WORD INPUT`.
+// its twin with itself, the norms and first inputs of its symbols, comparisons and offers, and then the lines
+// of standard input, each of the form `WORD INPUT`.
 #![tactic(auto)]
 
+mod comparisons;
 mod norms;
 mod outcome;
 mod query;
@@ -11,6 +12,7 @@ mod reading;
 mod runs;
 mod seven;
 
+use comparisons::make_calls;
 use grammar::{Grammar, ListGrammar, Twin};
 use norms::survey_symbols;
 use outcome::Outcome;
@@ -88,6 +90,7 @@ fn run(rt: &(impl Print + Input + AllocGlobal)) -> anyhow::Result<()> {
     answer_all(rt, &twin, "twin, first", TABLE)?;
     answer_second(rt, &twin)?;
     survey_symbols(rt, &g)?;
+    make_calls(rt, &g)?;
     let mut text = Vec::new(heap);
     rt.reader().read_to_end(&mut text)?;
     answer_all(rt, &g, "line", &text)

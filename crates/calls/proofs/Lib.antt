@@ -1,0 +1,10 @@
+pub mod Ground
+pub mod Comparisons
+pub mod Taking
+pub mod Copies
+pub mod Histories
+pub mod Example
+pub mod Straying
+pub mod BySymbol
+pub mod Sections
+pub mod OneOffer

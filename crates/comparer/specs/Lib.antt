@@ -1,0 +1,2 @@
+pub mod Comparers
+pub mod Lawful
