@@ -79,7 +79,7 @@ module _ (V : View) where
       go None h = subst (All (λ r. r.symbol < suc n)) (sym (append-nil (rows_in V n))) h
       go (Some w) h = all_push (λ r. r.symbol < suc n) (rows_in V n) (row_of n w) h (omega arith)
 
-  rows_rising : (n : ℕ) → Rising RowAfter (rows_in V n)
+  pub rows_rising : (n : ℕ) → Rising RowAfter (rows_in V n)
   rows_rising zero = tt
   rows_rising (suc n) = go (V n) (rows_rising n)
     where
@@ -122,7 +122,7 @@ module _ (V : View) where
         go (inl e) ih = ap (marked V) (sym e)
         go (inr e) ih = let s : n ≤ k = omega (arith, e) in let d = ap tell (none k s) in let h = ih s in omega arith
 
-    rows_whole : (k : ℕ) → n ≤ k → (A : ℕ) → row_at A (rows_in V k) ≡ V A
+    pub rows_whole : (k : ℕ) → n ≤ k → (A : ℕ) → row_at A (rows_in V k) ≡ V A
     rows_whole k l A = elim (cases_lt A k) [ inl h ↦ row_below k A h | inr h ↦ row_above k A h ∙ sym (none A (omega arith)) ]
 
 module _ {T : Type 0} (𝓣 : Group T) (M : Meaning T) (norm : ℕ → ℕ) (first : ℕ → Input) (G : Ground 𝓣 M norm first) (V : View) (stands : Standing 𝓣 M norm first V) where

@@ -8,3 +8,4 @@ pub mod Straying
 pub mod BySymbol
 pub mod Sections
 pub mod OneOffer
+pub mod Renormed

@@ -65,20 +65,22 @@ module _ (V : View) where
   section_all k l none = ap (λ rs. length (rows_in V 32) ∷ joined row_bytes rs) (sym (rows_between k 32 l (λ B h b. none B h)))
 
   -- the count is written first
-  pub count_written : {o p : List ℕ} {next : ℕ} (b : ℕ) → b ≡ length (rows_in V 32) → Wrote o 0 (b ∷ []) next p → Wrote o 0 (section 0) next p
-  count_written {o} {p} {next} b e w = subst (λ n. Wrote o 0 (n ∷ []) next p) e w
+  pub count_written : {o p : List ℕ} {from next : ℕ} (b : ℕ) → b ≡ length (rows_in V 32) → Wrote o from (b ∷ []) next p → Wrote o from (section 0) next p
+  count_written {o} {p} {from} {next} b e w = subst (λ n. Wrote o from (n ∷ []) next p) e w
 
   -- then each row, in two steps
-  pub row_written : {o p q r : List ℕ} {at mid next : ℕ} (k A : ℕ) (x : ShortWord 64) (w : Word) → length o < 2 ^ 64 → NextRow V k A → V A ≡ Some (held x) → w ≡ held x →
-      Wrote o 0 (section k) at p → Wrote p at (A ∷ x.len ∷ []) mid q → Wrote q mid w next r → Wrote o 0 (section (A + 1)) next r
-  row_written {o} {p} {q} {r} {at} {mid} {next} k A x w room after is e one two three =
-      subst (λ (bs : List ℕ). Wrote o 0 bs next r) (append_assoc (section k) (A ∷ x.len ∷ []) w ∙ ap (λ (v : Word). section k ++ A ∷ x.len ∷ v) e ∙ section_more k A x after is) (wrote_then room (wrote_then room one two) three)
+  pub row_written : {o p q r : List ℕ} {from at mid next : ℕ} (k A : ℕ) (x : ShortWord 64) (w : Word) → length o < 2 ^ 64 → NextRow V k A → V A ≡ Some (held x) → w ≡ held x →
+      Wrote o from (section k) at p → Wrote p at (A ∷ x.len ∷ []) mid q → Wrote q mid w next r → Wrote o from (section (A + 1)) next r
+  row_written {o} {p} {q} {r} {from} {at} {mid} {next} k A x w room after is e one two three =
+      subst (λ (bs : List ℕ). Wrote o from bs next r) (append_assoc (section k) (A ∷ x.len ∷ []) w ∙ ap (λ (v : Word). section k ++ A ∷ x.len ∷ v) e ∙ section_more k A x after is) (wrote_then room (wrote_then room one two) three)
 
   -- and with no row left it is done
-  pub all_written : {o p : List ℕ} {next : ℕ} (k : ℕ) → length o < 2 ^ 63 → k ≤ 32 → ((A : ℕ) → k ≤ A → V A ≡ None) → Wrote o 0 (section k) next p →
-      length (copied V) ≤ length o → (next ≡ length (copied V)) × (p ≡ copied V ++ drop (length (copied V)) o)
-  all_written {o} {p} {next} k room l none w fits =
-      let all : Wrote o 0 (copied V) next p = subst (λ (bs : List ℕ). Wrote o 0 bs next p) (section_all k l none) w in
+  pub all_written : {o p : List ℕ} {from next : ℕ} (k : ℕ) → k ≤ 32 → ((A : ℕ) → k ≤ A → V A ≡ None) → Wrote o from (section k) next p → Wrote o from (copied V) next p
+  all_written {o} {p} {from} {next} k l none w = subst (λ (bs : List ℕ). Wrote o from bs next p) (section_all k l none) w
+
+  -- from the start of a buffer with room
+  pub copy_written : {o p : List ℕ} {next : ℕ} → length o < 2 ^ 63 → Wrote o 0 (copied V) next p → length (copied V) ≤ length o → (next ≡ length (copied V)) × (p ≡ copied V ++ drop (length (copied V)) o)
+  copy_written {o} {p} {next} room all fits =
       let from : 0 + length (copied V) ≡ length (copied V) = omega arith in
       (omega (arith, all.place), all.bytes (omega arith) ∙ ap (λ n. copied V ++ drop n o) from)
 

@@ -8,7 +8,7 @@
 -- copied V            the bytes of a copy: a section of the rows of V
 --
 -- Assumes nothing.
-use Rattle.std.specs.Prelude.{◌≡◌, ℕ, zero, suc, ◌<◌, List, [], ◌∷◌, ◌++◌, Some, None, Option, Ok, Err, Result}
+use Rattle.std.specs.Prelude.{◌≡◌, ℕ, zero, suc, ◌<◌, List, [], ◌++◌, Some, None, Ok, Err, Result}
 use Rattle.std.specs.Option.{option_map, option_to_list}
 use Rattle.tally.specs.Group.{Group}
 use Rattle.grammar.specs.Meaning.{Word, Input, Meaning}

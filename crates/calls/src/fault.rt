@@ -5,7 +5,7 @@ use survey::GrammarFault;
 // What a call can be refused for. Words are numbered 1 and 2; places count from 0.
 #[derive(Clone, Copy, Debug, PartialEq, Eq)]
 pub enum CallFault {
-    // 1, 2 and 4 to 6: the offered bytes are no rows section.
+    // 1, 2 and 4 to 6: the offered bytes are no rows section. 2, 3 and 7: names or kinds that no file has are to be written.
     File(Fault),
     // 8 to 12: the grammar is refused.
     Grammar(GrammarFault),
@@ -25,6 +25,6 @@ pub enum CallFault {
     Misses(u8),
     // 20: with all rows marked, a row does not agree at a letter.
     Disagrees(Disagreement),
-    // 21: the buffer of a copy has fewer than 2,047 bytes (its length).
+    // 21: the buffer of a copy has fewer than 2,047 bytes, or that of a write fewer than 14,565 (its length).
     ShortCopy(usize),
 }

@@ -17,7 +17,7 @@ mod test;
 
 pub use answer::Answer;
 pub use checks::{MAX_GIVEN, MIN_COPY, check_compare, check_copy, check_run};
-pub use copying::copy_into;
+pub use copying::{copy_into, put, rows_into};
 pub use fault::CallFault;
 pub use offering::check_rows;
 pub use test::Test;

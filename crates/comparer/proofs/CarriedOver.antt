@@ -14,7 +14,7 @@ use Rattle.grammar.proofs.Options.{none_some}
 use Rattle.norm.specs.Norms.{Normed, norms}
 use Rattle.norm.proofs.Lawful.{one_normed}
 use Rattle.layout.specs.Contents.{FileRow}
-use Rattle.layout.proofs.Steps.{ok_err, ok_same}
+use Rattle.layout.proofs.Steps.{ok_err, ok_same, err_same}
 use Rattle.rows.specs.Sheets.{View, difference, weighed, SelfProving, Ranked}
 use Rattle.survey.specs.Refusals.{Accepted, Refused as RefusedFor}
 use Rattle.survey.specs.Laws.{Surveys}
@@ -31,19 +31,15 @@ use Rattle.calls.specs.declared.fault.CallFault.{CallFault}
 use Rattle.calls.specs.declared.fault.CallFault.TheVariants.{ShortCopy}
 use Rattle.calls.proofs.Ground.{Standing, ground}
 use Rattle.calls.proofs.Copies.{carries}
+use Rattle.calls.proofs.Renormed.{norms_same, weighed_too}
 use Rattle.calls.proofs.OneOffer.{never_both, same_rows}
 use Rattle.sheet.specs.Candidates.{candidates}
-use Rattle.comparer.specs.Comparers.{rows_of, has_survey, Over, Without, offering, refused_offer, after_offer}
+use Rattle.comparer.specs.Comparers.{rows_of, has_survey, Over, Without, offering, refused_offer, after_offer, CarriedOver, not_over, not_taken, taken}
 use Rattle.comparer.specs.Lawful.{HistoryOver, Lawful}
 use Rattle.comparer.specs.declared.comparer.Comparer.{Comparer}
 use Rattle.comparer.specs.declared.desk.Desk.{Desk}
 use Rattle.comparer.specs.declared.refused.Refused.{Refused}
 use Rattle.comparer.proofs.Lawfulness.{Stands, over_some, survey_accepted, history_stands}
-
--- norms that are equal at the symbols of a word
-norms_same : (n : ℕ) (norm other : ℕ → ℕ) → ((A : ℕ) → A < n → norm A ≡ other A) → (w : Word) → Below n w → norms norm w ≡ norms other w
-norms_same n norm other same [] b = refl
-norms_same n norm other same (A ∷ w) b = ap₂ ◌+◌ (same A b.0) (norms_same n norm other same w b.1)
 
 module _ {T : Type 0} (𝓣 : Group T) (M : Meaning T) (norm other : ℕ → ℕ) (first second : ℕ → Input) (N : Normed 𝓣 M norm first) (K : Normed 𝓣 M other second)
     (V : View) (stands : Standing 𝓣 M norm first V) where
@@ -60,19 +56,9 @@ module _ {T : Type 0} (𝓣 : Group T) (M : Meaning T) (norm other : ℕ → ℕ
         lower = row.lower;
       }
 
-  abbrev row_with : Input → ℕ → Word → Weighted T
-  row_with s A w = record { word = w; tally = difference 𝓣 (takes 𝓣 M (A ∷ []) s) (takes 𝓣 M w s) }
-
-  weighed_too : (A : ℕ) → weighed 𝓣 M first V A ≡ weighed 𝓣 M second V A
-  weighed_too A = go (V A) refl
-    where
-      go : (o : Option Word) → V A ≡ o → option_map (row_with (first A) A) o ≡ option_map (row_with (second A) A) o
-      go None e = refl
-      go (Some w) e = ap {B = Option (Weighted T)} (λ s. Some (row_with s A w)) (same A (stands.ranked A w e).symbol).1
-
   -- rows that stand over norms and first inputs stand over others that the grammar has
   standing_too : Standing 𝓣 M other second V
-  standing_too = record { ranked = ranked_too; proving = subst (λ D. SelfProving 𝓣 M D) (λ i A. weighed_too A i) stands.proving }
+  standing_too = record { ranked = ranked_too; proving = subst (λ D. SelfProving 𝓣 M D) (weighed_too 𝓣 M norm other first second V N K V (λ A w e. (stands.ranked A w e).symbol)) stands.proving }
 
 -- what an offer to a new comparer has come to, with the rows of W there then: those of V
 abbrev pub Carried : View → View → Result (Unit {0}) CallFault → Type 0
@@ -108,7 +94,7 @@ copy_answered : (k n : ℕ) (r : Result ℕ CallFault) → 2047 ≤ k → r ≡ 
 copy_answered k n r long e = e ∙ ap (λ b. answered (when b (ShortCopy k)) n) (le-ltb k 2047 long)
 
 -- the bytes at its start are those that were written
-copy_read : (bs old new : List ℕ) (n : ℕ) → n ≡ length bs → new ≡ bs ++ drop (length bs) old → (o : Option (Bor (List ℕ))) (d r : Bor (List ℕ)) → r ≡ unwrap_or o d →
+pub copy_read : (bs old new : List ℕ) (n : ℕ) → n ≡ length bs → new ≡ bs ++ drop (length bs) old → (o : Option (Bor (List ℕ))) (d r : Bor (List ℕ)) → r ≡ unwrap_or o d →
     IsGetRangeResult new 0 n o → r.now ≡ bs
 copy_read bs old new n size is o d r e read =
     let long : n ≤ length new = rw (is, length-append) (omega arith) in
@@ -164,3 +150,44 @@ module _ {T : Type 0} (𝓣 : Group T) (d e : Comparer T) (desk : e.desk ≡ d.d
   history_begun begins lawful t o =
       let over : Over d t = subst (λ (x : Result (Desk T) Refused). has_survey x t) desk o in
       (offering t.skeleton.words.count bs r ∷ [], (lawful t.skeleton.words.count t over refl).history t over [] (begins t over))
+
+-- a copy to a buffer that is too short is refused, and no byte is written
+pub short_refused : (k n : ℕ) (a : Result ℕ CallFault) (f g : CallFault) → a ≡ answered (copy_fault k) n → copy_fault k ≡ Some f → a ≡ Err g → g ≡ f
+short_refused k n a f g e short is = err_same (sym is ∙ e ∙ ap (λ o. answered o n) short)
+
+-- it is not answered
+pub short_answered : {X : Type 0} (k n m : ℕ) (a : Result ℕ CallFault) (f : CallFault) → a ≡ answered (copy_fault k) n → copy_fault k ≡ Some f → a ≡ Ok m → X
+short_answered k n m a f e short is = absurd (ok_err (sym is ∙ e ∙ ap (λ o. answered o n) short))
+
+-- one to a buffer that is long enough is answered
+pub long_answered : (k n : ℕ) (a : Result ℕ CallFault) → a ≡ answered (copy_fault k) n → copy_fault k ≡ None → a ≡ Ok n
+long_answered k n a e long = e ∙ ap (λ o. answered o n) long
+
+-- the comparer that took the offer, or the fault
+abbrev pub made : {T : Type 0} → Comparer T → Result (Unit {0}) CallFault → Result (Comparer T) CallFault
+made e (Ok u) = Ok e
+made e (Err f) = Err f
+
+module _ {T : Type 0} (𝓣 : Group T) (M : Meaning T) (V : View) (d e : Comparer T) (desk : e.desk ≡ d.desk)
+    (value : elim d.desk as (λ x. Type 0) [ Ok k ↦ Surveys 32 64 𝓣 M k.survey | Err q ↦ RefusedFor 32 64 𝓣 M q.fault × (q.count ≡ M.count) ]) (empty : (A : ℕ) → rows_of d A ≡ None)
+    (bs : List ℕ) (is : bs ≡ copied V) (r : Result (Unit {0}) CallFault)
+    (offer : (t : Survey T) → Over d t → Ranked t.skeleton.words.count (norm_in t) (rows_of d) → after_offer 𝓣 t (rows_of d) bs r (rows_of e))
+    (without : (q : Refused) → Without d q → r ≡ Err (refused_offer q (candidates q.count bs))) where
+  offered : (t : Survey T) → Over d t → after_offer 𝓣 t (λ A. None) (copied V) r (rows_of e)
+  offered t over =
+      subst (λ U. after_offer 𝓣 t U (copied V) r (rows_of e)) (λ i A. empty A i)
+      (subst (λ b. after_offer 𝓣 t (rows_of d) b r (rows_of e)) is (offer t over (λ A w k. absurd (none_some (sym (empty A) ∙ k)))))
+
+  -- what the offer of a copy to a new comparer comes to
+  pub carried_over : CarriedOver 𝓣 M V (made e r)
+  carried_over = go d.desk refl value
+    where
+      over : (t : Survey T) → Surveys 32 64 𝓣 M t → Over e t → (q : Result (Unit {0}) CallFault) → after_offer 𝓣 t (λ A. None) (copied V) q (rows_of e) → CarriedOver 𝓣 M V (made e q)
+      over t v o (Ok u) a = taken t e v o a
+      over t v o (Err f) a = not_taken t f (rows_of e) v a
+
+      go : (x : Result (Desk T) Refused) → d.desk ≡ x → elim x as (λ y. Type 0) [ Ok k ↦ Surveys 32 64 𝓣 M k.survey | Err q ↦ RefusedFor 32 64 𝓣 M q.fault × (q.count ≡ M.count) ] → CarriedOver 𝓣 M V (made e r)
+      go (Ok k) f v = over k.survey v (subst (λ (x : Result (Desk T) Refused). has_survey x k.survey) (sym (desk ∙ f)) refl) r (offered k.survey (subst (λ (x : Result (Desk T) Refused). has_survey x k.survey) (sym f) refl))
+      go (Err q) f v =
+          subst (λ x. CarriedOver 𝓣 M V (made e x)) (sym (without q f ∙ ap (λ b. Err (refused_offer q (candidates q.count b))) is))
+          (not_over q v.0 v.1)

@@ -28,6 +28,7 @@ use Rattle.comparer.specs.Comparers.{rows_of, Over, SameGrammar}
 use Rattle.comparer.specs.Lawful.{Lawful}
 use Rattle.comparer.specs.declared.comparer.Comparer.{Comparer}
 use Rattle.comparer.specs.declared.desk.Desk.{Desk}
+use Rattle.comparer.proofs.Unless.{no_fault, a_fault}
 use Rattle.comparer.proofs.Lawfulness.{desk_survey, desk_over, never_without, Stands, Step, lawful, lawful_still}
 
 -- letters in place are no more than the longest input
@@ -45,14 +46,6 @@ none_first (Some f) os e = absurd (some_none e)
 
 when_none : (k n : ℕ) (f : CallFault) → when (nat_lt k n) f ≡ None → n ≤ k
 when_none k n f e = elim (cases_lt k n) [ inl l ↦ absurd (some_none (sym (ap (λ b. when b f) (lt-ltb k n l)) ∙ e)) | inr l ↦ l ]
-
-passes : (o : Option CallFault) {u : Unit {0}} → unless o ≡ Ok u → o ≡ None
-passes None e = refl
-passes (Some f) e = absurd (ok_err (sym e))
-
-fails : (o : Option CallFault) {f : CallFault} → unless o ≡ Err f → o ≡ Some f
-fails None e = absurd (ok_err e)
-fails (Some f) e = ap {B = Option CallFault} Some (err_same e)
 
 module _ {T : Type 0} (M : Meaning T) (x y : Word) (room : ℕ) where
   -- what a comparison is given that is not refused
@@ -91,7 +84,7 @@ module _ {T : Type 0} (𝓣 : Group T) (c : Comparer T) (k : Desk T) (is : c.des
     checked = sym (told ∙ ap (λ m. unless (compare_fault m x y room)) count)
 
     pub not_refused : {u : Unit {0}} → r ≡ Ok u → Allowed (surveyed k.survey) x y room
-    not_refused e = allowed (surveyed k.survey) x y room (passes (fault k.survey) (checked ∙ e))
+    not_refused e = allowed (surveyed k.survey) x y room (no_fault (fault k.survey) (checked ∙ e))
 
     -- then what is found fits the buffer
     pub found_fits : {u : Unit {0}} → r ≡ Ok u → (l : Letters) (i : Input) → i ≡ letters l → length i ≤ room
@@ -101,7 +94,7 @@ module _ {T : Type 0} (𝓣 : Group T) (c : Comparer T) (k : Desk T) (is : c.des
         omega arith
 
     refused_for : {f : CallFault} → r ≡ Err f → fault k.survey ≡ Some f
-    refused_for e = fails (fault k.survey) (checked ∙ e)
+    refused_for e = a_fault (fault k.survey) (checked ∙ e)
 
     pub refused_exactly : (f : CallFault) → r ≡ Err f → (s : Survey T) → Over c s → (h : CallFault) → (◌≡◌ {A = Result Answer CallFault} (Err f) (Err h)) ↔ (fault s ≡ Some h)
     refused_exactly f e =

@@ -1,76 +1,29 @@
 -- How long a copy is: fewer rows than symbols, so at most 31, of at most 66 bytes each, and one byte before them. Assumes nothing.
-use Rattle.std.proofs.Common.{◌≡◌, ℕ, ◌+◌, ◌*◌, ◌<◌, ◌≤◌, List, [], ◌∷◌, ◌++◌, length, take, drop, Some, None, Option, Ok, Err, Result, sym, refl, ap, ap₂, ◌∙◌, subst, length-append, lt-ltb, inl, inr, arith}
+use Rattle.std.proofs.Common.{◌≡◌, ℕ, ◌≤◌, List, ◌++◌, length, take, drop, Some, None, Option, Ok, Err, Result, sym, refl, ap, ap₂, ◌∙◌, subst, lt-ltb, inl, inr, arith}
 use Rattle.std.proofs.Math.Seq.{take-append_seam}
 use Rattle.std.proofs.lemmas.Bool.{cases_lt}
 use Rattle.tally.specs.Group.{Group}
-use Rattle.grammar.specs.Meaning.{Word}
-use Rattle.grammar.proofs.Options.{none_some, some_none}
-use Rattle.layout.specs.Contents.{FileRow, All, joined, row_bytes}
+use Rattle.grammar.proofs.Options.{some_none}
 use Rattle.layout.proofs.Steps.{ok_err, err_same}
-use Rattle.rows.specs.Sheets.{View, weighed, Ranked, marked}
-use Rattle.survey.specs.Surveyed.{surveyed, norm_in, first_in}
+use Rattle.rows.specs.Sheets.{View, Ranked}
+use Rattle.survey.specs.Surveyed.{norm_in}
 use Rattle.survey.specs.declared.table.Survey.{Survey}
-use Rattle.survey.proofs.Holding.{laws_in}
-use Rattle.agreement.proofs.Cutting.{survey_rows}
 use Rattle.calls.specs.Refusals.{copy_fault, when, answered, unless}
 use Rattle.calls.specs.Offers.{rows_in, copied}
 use Rattle.calls.specs.Histories.{copied_to, copy_written}
 use Rattle.calls.specs.declared.fault.CallFault.{CallFault}
 use Rattle.calls.specs.declared.fault.CallFault.TheVariants.{ShortCopy}
-use Rattle.calls.proofs.Ground.{weighed_ranked, weighed_marked}
-use Rattle.calls.proofs.Copies.{rows_number, rows_all, marked_past}
+use Rattle.writing.proofs.Rows.{rows_legal}
+use Rattle.writing.proofs.Sizes.{rows_short}
 use Rattle.comparer.specs.Comparers.{rows_of, Over}
 use Rattle.comparer.specs.declared.comparer.Comparer.{Comparer}
+use Rattle.comparer.proofs.Unless.{no_fault, a_fault}
 use Rattle.comparer.proofs.Lawfulness.{Step, over_some}
 
-bytes_short : (rs : List FileRow) → All (λ r. length r.word ≤ 64) rs → length (joined row_bytes rs) ≤ 66 * length rs
-bytes_short [] h = omega arith
-bytes_short (r ∷ rs) h = let ih = bytes_short rs h.1 in let w = h.0 in let l = length-append (row_bytes r) (joined row_bytes rs) in omega arith
-
 module _ {T : Type 0} (𝓣 : Group T) (s : Survey T) (some : 1 ≤ s.skeleton.words.count) (V : View) (ranked : Ranked s.skeleton.words.count (norm_in s) V) where
-  none_above : (A : ℕ) → s.skeleton.words.count ≤ A → V A ≡ None
-  none_above A l = go (V A) refl
-    where
-      go : (o : Option Word) → V A ≡ o → V A ≡ None
-      go None e = e
-      go (Some w) e = absurd (let h = (ranked A w e).symbol in omega arith)
-
-  fewer_rows : marked V s.skeleton.words.count < s.skeleton.words.count
-  fewer_rows =
-      subst (λ k. k < s.skeleton.words.count) (weighed_marked 𝓣 (surveyed s) (first_in s) V s.skeleton.words.count)
-      ((survey_rows 𝓣 s).fewer (weighed 𝓣 (surveyed s) (first_in s) V) (weighed_ranked 𝓣 (surveyed s) (first_in s) V s.skeleton.words.count (norm_in s) ranked) some)
-
-  row_short : (A : ℕ) (w : Word) → V A ≡ Some w → length w ≤ 64
-  row_short A w e =
-      let row = ranked A w e in
-      let weighs = row.weighs in
-      let long = (laws_in s 𝓣).long_enough w row.below in
-      let small = s.skeleton.small A row.symbol in
-      omega arith
-
-  few_rows : length (rows_in V 32) ≤ 31
-  few_rows =
-      let n = rows_number V 32 in
-      let p = marked_past V s.skeleton.words.count none_above 32 s.skeleton.words.few in
-      let f = fewer_rows in
-      let few = s.skeleton.words.few in
-      omega arith
-
   -- a copy of ranked rows has room wherever a copy is not refused
   pub copy_short : length (copied V) ≤ 2047
-  copy_short =
-      let few = few_rows in
-      let h = bytes_short (rows_in V 32) (rows_all V (λ r. length r.word ≤ 64) row_short 32) in
-      omega arith
-
--- what is not refused has no fault, and what is refused has that one
-pub no_fault : (o : Option CallFault) {u : Unit {0}} → unless o ≡ Ok u → o ≡ None
-no_fault None e = refl
-no_fault (Some f) e = absurd (ok_err (sym e))
-
-pub a_fault : (o : Option CallFault) {f : CallFault} → unless o ≡ Err f → o ≡ Some f
-a_fault None e = absurd (ok_err e)
-a_fault (Some f) e = ap {B = Option CallFault} Some (err_same e)
+  copy_short = rows_short s.skeleton.words.count (rows_in V 32) (rows_legal 𝓣 s some V ranked)
 
 pub copy_room : (k : ℕ) → copy_fault k ≡ None → 2047 ≤ k
 copy_room k e = elim (cases_lt k 2047) [ inl l ↦ absurd (some_none (sym (ap (λ b. when b (ShortCopy k)) (lt-ltb k 2047 l)) ∙ e)) | inr l ↦ l ]

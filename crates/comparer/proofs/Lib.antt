@@ -1,6 +1,9 @@
 pub mod Lawfulness
+pub mod Unless
 pub mod RunValues
 pub mod CopySizes
 pub mod Trials
+pub mod Told
 pub mod Comparisons
 pub mod CarriedOver
+pub mod FileWritten

@@ -17,16 +17,8 @@ use Rattle.comparer.specs.Comparers.{rows_of, Over}
 use Rattle.comparer.specs.Lawful.{Lawful}
 use Rattle.comparer.specs.declared.comparer.Comparer.{Comparer}
 use Rattle.comparer.specs.declared.desk.Desk.{Desk}
+use Rattle.comparer.proofs.Unless.{no_fault, a_fault}
 use Rattle.comparer.proofs.Lawfulness.{desk_survey, Step, lawful_still}
-
--- what passes the checks is not refused, and what does not is refused for that
-passes : (o : Option CallFault) → Ok tt ≡ unless o → o ≡ None
-passes None e = refl
-passes (Some f) e = let z : ◌≡◌ {A = ℕ} 0 1 = cc in absurd (omega arith)
-
-fails : {X : Type 0} (o : Option CallFault) (f : CallFault) (x : X) → Err f ≡ unless o → Err f ≡ answered o x
-fails None f x e = let z : ◌≡◌ {A = ℕ} 0 1 = cc in absurd (omega arith)
-fails (Some h) f x e = let d : f ≡ h = cc in ap Err d
 
 module _ {T : Type 0} (𝓣 : Group T) (w : Word) (i : Input) where
   -- a run that is not refused has few enough letters for an answer
@@ -53,11 +45,11 @@ module _ {T : Type 0} (𝓣 : Group T) (w : Word) (i : Input) where
       pub ran_refused : (r : Result (Option T) CallFault) (f h : CallFault) → r ≡ Err f → f ≡ h → Err h ≡ unless (run_fault k w i) → (s : Survey T) → Over c s → Ran r s
       ran_refused r f h e same fault =
           let told : Err f ≡ unless (run_fault d.survey.skeleton.words.count w i) = ap Err same ∙ fault ∙ ap (λ n. unless (run_fault n w i)) count in
-          over r (e ∙ fails (run_fault d.survey.skeleton.words.count w i) f (takes 𝓣 (surveyed d.survey) w i) told)
+          over r (e ∙ sym (ap (λ o. answered o (takes 𝓣 (surveyed d.survey) w i)) (a_fault (run_fault d.survey.skeleton.words.count w i) (sym told))))
 
       pub ran_answered : (r : Result (Option T) InputTooLong) (t : Option T) → Ok tt ≡ unless (run_fault k w i) → r ≡ derived 𝓣 (surveyed d.survey) w i → t ≡ result_unwrap_or r None → (s : Survey T) → Over c s → Ran (Ok t) s
       ran_answered r t passed derives e =
-          let none : run_fault d.survey.skeleton.words.count w i ≡ None = passes _ (passed ∙ ap (λ n. unless (run_fault n w i)) count) in
+          let none : run_fault d.survey.skeleton.words.count w i ≡ None = no_fault _ (sym (passed ∙ ap (λ n. unless (run_fault n w i)) count)) in
           let value : t ≡ takes 𝓣 (surveyed d.survey) w i = e ∙ ap (λ q. result_unwrap_or q None) (derives ∙ run_derived d.survey none) in
           over (Ok t) (ap Ok value ∙ sym (ap (λ o. answered o (takes 𝓣 (surveyed d.survey) w i)) none))
 

@@ -7,8 +7,10 @@ mod comparer;
 mod comparing;
 mod copies;
 mod desk;
+mod file;
 mod making;
 mod offers;
+mod reading;
 mod refused;
 mod running;
 

@@ -2,10 +2,10 @@
 ghost use Rattle.layout.specs.Reading.{checked_any};
 ghost use Rattle.inspect.specs.Told.{Tells};
 
-use crate::kinds::check_any;
 use file_grammar::FileGrammar;
 use format::Checked;
 use layout::FaultCode;
+use stated::check_any;
 use survey::{Survey, survey};
 use tally::Untallied;
 

@@ -4,11 +4,8 @@
 #![tactic(auto)]
 
 mod inspected;
-mod kinds;
 mod listing;
 mod parts;
-#[cfg(test)]
-mod tests;
 
 use inspected::inspect;
 use listing::show;

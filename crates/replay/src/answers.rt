@@ -75,6 +75,21 @@ fn copy<T: FileTally>(
     Ok(())
 }
 
+// Writes a file with these names to a buffer of so many bytes.
+fn write<T: FileTally>(
+    rt: &(impl Print + AllocGlobal),
+    comparer: &Comparer<T>,
+    names: &[u8],
+    room: usize,
+) -> anyhow::Result<()> {
+    let mut out = vec![in rt.alloc(); 0; room]?;
+    match comparer.write_file(names, &mut out) {
+        Ok(len) => rt.println(Hexadecimal(out.get(..len).unwrap_or(&[])))?,
+        Err(fault) => rt.println(Refusal(FaultCode::from(fault)))?,
+    }
+    Ok(())
+}
+
 // Makes a call and prints its answer.
 pub fn answer<T: FileTally>(
     rt: &(impl Print + AllocGlobal),
@@ -90,7 +105,7 @@ pub fn answer<T: FileTally>(
         }
         Call::Run { word, input } => say_run(rt, comparer.run(word, input))?,
         Call::Copy(room) => copy(rt, comparer, *room)?,
-        Call::Write { .. } => println!(rt; "not there yet")?,
+        Call::Write { names, room } => write(rt, comparer, names, *room)?,
     }
     Ok(())
 }

@@ -1,10 +1,10 @@
 use Rattle.std.proofs.Common.{refl, sym, ◌∙◌}
 use Rattle.std.proofs.lemmas.Result.{err_from_is_err_and}
 use Rattle.sheet.specs.Rowed.{shown}
-use Rattle.calls.specs.Histories.{copied_to, copy_refused}
-use Rattle.comparer.specs.Comparers.{rows_of}
+use Rattle.calls.specs.Histories.{copy_refused}
 use Rattle.comparer.proofs.Lawfulness.{same_desk, lawful}
-use Rattle.comparer.proofs.CopySizes.{no_fault, a_fault, written, written_answer, written_step}
+use Rattle.comparer.proofs.CopySizes.{written, written_answer, written_step}
+use Rattle.comparer.proofs.Unless.{no_fault, a_fault}
 use Rattle.comparer.proofs.comparer.Comparer.copy_rows.Goals as goal
 
 pub returns-in_err-check_copy-clause-lawful : goal.returns-in_err-check_copy-clause-lawful

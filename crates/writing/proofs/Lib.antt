@@ -1,0 +1,14 @@
+pub mod Members
+pub mod Lookups
+pub mod RuleLists
+pub mod Rows
+pub mod Same
+pub mod Names
+pub mod Sizes
+pub mod Law
+pub mod Surveyed
+pub mod Examples
+pub mod CheckedNames
+pub mod WrittenItems
+pub mod WrittenRules
+pub mod WrittenFile
