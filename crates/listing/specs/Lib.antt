@@ -1,0 +1,4 @@
+pub mod Texts
+pub mod Listed
+pub mod Found
+pub mod Opened
