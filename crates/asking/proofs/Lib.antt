@@ -1,0 +1,6 @@
+pub mod Written
+pub mod Asked
+pub mod OverTwins
+pub mod Lines
+pub mod Options
+pub mod OnExamples
