@@ -1,8 +1,31 @@
 -- The bytes of one rule: what is read out of them. Assumes nothing.
-use Rattle.std.proofs.Common.{◌≡◌, ℕ, zero, suc, ◌+◌, ◌*◌, ◌<◌, ◌≤◌, List, length, get_or, drop, sym, refl, ap, ◌∙◌, arith, [], ◌∷◌}
-use Rattle.std.proofs.lemmas.List.{drop-drop, get_or_past, get_or-drop}
+use Rattle.std.proofs.Common.{◌≡◌, ℕ, zero, suc, ◌+◌, ◌*◌, ◌<◌, ◌≤◌, min, List, length, get_or, take, drop, sym, refl, ap, ◌∙◌, ⊎_elim, arith, [], ◌∷◌}
+use lib.ListN.{length-map}
+use Rattle.std.proofs.lemmas.List.{drop-drop, drop_all, take_all, get_or_past, get_or-map, get_or-drop}
+use Rattle.std.proofs.lemmas.Bool.{cases_lt}
 use Rattle.std.specs.Int.{from_be_bytes, w32}
+use Rattle.grammar.specs.Meaning.{Word}
+use Rattle.grammar.specs.Listed.{capped}
 use Rattle.file_grammar.specs.Tabled.{number_of, numbers_of}
+
+-- a cut at the end at the latest
+pub drop_within : (n : ℕ) (bs : List ℕ) → drop (min n (length bs)) bs ≡ drop n bs
+drop_within n bs = ⊎_elim before past (cases_lt n (length bs))
+  where
+    before : n < length bs → drop (min n (length bs)) bs ≡ drop n bs
+    before h = let e : min n (length bs) ≡ n = omega arith in ap (λ m. drop m bs) e
+
+    past : length bs ≤ n → drop (min n (length bs)) bs ≡ drop n bs
+    past h = drop_all (min n (length bs)) bs (omega arith) ∙ sym (drop_all n bs h)
+
+pub take_within : (n : ℕ) (bs : List ℕ) → take (min n (length bs)) bs ≡ take n bs
+take_within n bs = ⊎_elim before past (cases_lt n (length bs))
+  where
+    before : n < length bs → take (min n (length bs)) bs ≡ take n bs
+    before h = let e : min n (length bs) ≡ n = omega arith in ap (λ m. take m bs) e
+
+    past : length bs ≤ n → take (min n (length bs)) bs ≡ take n bs
+    past h = take_all (min n (length bs)) bs (omega arith) ∙ sym (take_all n bs h)
 
 -- each number has four bytes
 pub numbers_within : (k i : ℕ) (bs : List ℕ) → i < k → get_or (numbers_of k bs) i 0 ≡ number_of (drop (4 * i) bs)
@@ -37,3 +60,10 @@ number_read i bs j a b c d same ea eb ec ed =
     let e3 = get_or-drop (4 * j + 2) bs 3 0 in
     let all : from_be_bytes w32 (a ∷ b ∷ c ∷ d ∷ []) ≡ number_of (drop (4 * j + 2) bs) = omega arith in
     all ∙ ap (λ n. number_of (drop n bs)) at
+
+-- a symbol of the word, and beyond it
+pub symbol_within : (w : Word) (i : ℕ) → i < length w → get_or w i 0 < 256 → get_or w i 0 ≡ get_or (capped w) i 255
+symbol_within w i h k = let e = get_or-map (λ B. min 255 B) w i 0 255 h in omega arith
+
+pub symbol_beyond : (w : Word) (i : ℕ) → length w ≤ i → 255 ≡ get_or (capped w) i 255
+symbol_beyond w i h = sym (get_or_past (capped w) i 255 (simp length-map h))

@@ -1,5 +1,5 @@
 -- The table of a checked file means what the file holds. Assumes nothing.
-use Rattle.std.proofs.Common.{◌≡◌, ℕ, ◌<◌, ◌≤◌, min, Bool, true, false, cond, ◌&&◌, ltb, leb, List, length, Some, None, Ok, Option, sym, refl, ap, ◌∙◌, arith, ltb-true, lt-ltb, le-leb, leb-true}
+use Rattle.std.proofs.Common.{◌≡◌, ℕ, ◌<◌, ◌≤◌, min, Bool, true, false, cond, ◌&&◌, ltb, leb, List, length, get_or, Some, None, Ok, Option, sym, refl, ap, ◌∙◌, arith, ltb-true, lt-ltb, le-leb, leb-true}
 use borrow.Author.Tests.{both_ways}
 use Rattle.std.proofs.lemmas.Bool.{and_parts, and_from}
 use Rattle.std.specs.Option.{option_map}
@@ -8,7 +8,7 @@ use Rattle.layout.specs.Contents.{FileRule, Contents, LegalRule, Legal}
 use Rattle.file_grammar.specs.Filed.{rule_at, weighed, held}
 use Rattle.file_grammar.specs.Placed.{Tables}
 use Rattle.grammar.specs.Places.{index}
-use Rattle.file_grammar.specs.Tabled.{rule_of, rule_in, tabled}
+use Rattle.file_grammar.specs.Tabled.{rule_of, from_place, tabled}
 use Rattle.file_grammar.specs.declared.rule_table.RuleTable.{RuleTable}
 use Rattle.file_grammar.proofs.Placing.{rule_at_none}
 
@@ -21,7 +21,7 @@ module _ {T : Type 0} (made : ℕ → ℕ → T) (t : RuleTable) (c : Contents) 
   same_rule : (A a : ℕ) → (tabled made t).rule A a ≡ (held made (Ok c)).rule A a
   same_rule A a = at (ltb A (min 255 t.count) && letter a) refl
     where
-      at : (b : Bool) → (ltb A (min 255 t.count) && letter a) ≡ b → option_map (λ bs. weighed made (rule_of t.kinds bs)) (cond b (rule_in t.rules (index A a)) None) ≡ option_map (weighed made) (rule_at A a c.rules)
+      at : (b : Bool) → (ltb A (min 255 t.count) && letter a) ≡ b → option_map (λ bs. weighed made (rule_of t.kinds bs)) (cond b (from_place t.rules.now (get_or t.places (index A a) 0)) None) ≡ option_map (weighed made) (rule_at A a c.rules)
       at true e =
           let p = and_parts (ltb A (min 255 t.count)) (letter a) e in
           let l = and_parts (leb 65 a) (leb a 90) p.1 in
@@ -29,7 +29,7 @@ module _ {T : Type 0} (made : ℕ → ℕ → T) (t : RuleTable) (c : Contents) 
           let few = h.few in
           let n = same_count in
           let small : A < 32 = omega arith in
-          twice (rule_in t.rules (index A a)) ∙ ap (option_map (weighed made)) (says.rules A a small (leb-true 65 a l.0, leb-true a 90 l.1))
+          twice (from_place t.rules.now (get_or t.places (index A a) 0)) ∙ ap (option_map (weighed made)) (says.places A a small (leb-true 65 a l.0, leb-true a 90 l.1))
         where
           twice : (o : Option (List ℕ)) → option_map (λ bs. weighed made (rule_of t.kinds bs)) o ≡ option_map (weighed made) (option_map (rule_of t.kinds) o)
           twice (Some bs) = refl

@@ -6,11 +6,10 @@
 -- passed_none, passed_more, passed_all   the loop's start, turn and end
 --
 -- Assumes nothing.
-use Rattle.std.proofs.Common.{◌≡◌, ℕ, ◌+◌, ◌*◌, ◌<◌, ◌≤◌, min, Bool, true, false, cond, ◌&&◌, eqb, ◌≢◌, List, [], ◌∷◌, ◌++◌, length, get_or, take, drop, set, replicate, Some, None, Option, sym, refl, ap, ◌∙◌, subst, ap₂, inl, inr, append_assoc, append-nil, arith, length-append, eq-eqb, eqb-true}
+use Rattle.std.proofs.Common.{◌≡◌, ℕ, suc, ◌+◌, ◌*◌, ◌<◌, ◌≤◌, min, Bool, true, false, cond, ◌&&◌, eqb, ◌≢◌, List, [], ◌∷◌, ◌++◌, length, get_or, take, drop, set, replicate, Some, None, Option, sym, refl, ap, ◌∙◌, subst, ap₂, inl, inr, append_assoc, append-nil, arith, length-append, eq-eqb, eqb-true}
 use borrow.Author.Tests.{both_ways}
 use Rattle.std.proofs.lemmas.List.{get_or_at, drop_at, take_at, get_or-set_same, get_or-set_other, get_or-replicate}
 use Rattle.std.proofs.lemmas.Bool.{and_parts, and_from}
-use Rattle.std.specs.Borrow.{Bor}
 use Rattle.std.specs.Option.{option_map}
 use Rattle.grammar.specs.Meaning.{Word, Letter, Below}
 use Rattle.grammar.specs.Listed.{capped}
@@ -18,9 +17,14 @@ use Rattle.layout.specs.Contents.{FileRule, All, Rising, After, LegalRule, four,
 use Rattle.file_grammar.specs.Filed.{rule_at}
 use Rattle.file_grammar.specs.Placed.{RulesOf, Placed}
 use Rattle.grammar.specs.Places.{index}
-use Rattle.file_grammar.specs.Tabled.{numbers_of, word_of, rule_of, rule_in}
+use Rattle.file_grammar.specs.Tabled.{numbers_of, word_of, rule_of, from_place}
 use Rattle.layout.proofs.Numbers.{from_four}
-use Rattle.layout.proofs.Ordered.{all_back}
+use Rattle.layout.proofs.Ordered.{all_back, all_front, joined_push}
+
+-- the bytes of a list in two parts
+pub joined_append : {X : Type 0} (f : X → List ℕ) (xs ys : List X) → joined f (xs ++ ys) ≡ joined f xs ++ joined f ys
+joined_append f [] ys = refl
+joined_append f (x ∷ xs) ys = ap (λ l. f x ++ l) (joined_append f xs ys) ∙ sym (append_assoc (f x) (joined f xs) (joined f ys))
 
 -- numbers: four bytes each, and read again
 pub four_length : (ns : List ℕ) → length (joined four ns) ≡ 4 * length ns
@@ -80,6 +84,18 @@ module _ (n k : ℕ) (few : n ≤ 32) (r : FileRule) (legal : LegalRule n k r) (
   rule_read =
       let word : capped (word_of k (rule_bytes r ++ rest)) ≡ r.word = ap capped word_read ∙ capped_same n r.word few legal.word in
       λ i. record { symbol = r.symbol; letter = r.letter; numbers = numbers_same i; word = word i }
+
+-- rules are short
+pub rules_short : (n k : ℕ) (rs : List FileRule) → k ≤ 2 → All (LegalRule n k) rs → length (joined rule_bytes rs) ≤ 15 * length rs
+rules_short n k [] few h = omega arith
+rules_short n k (r ∷ rs) few h =
+    let s = h.0.size in
+    let l = h.0.short in
+    let ih = rules_short n k rs few h.1 in
+    let all = length-append (rule_bytes r) (joined rule_bytes rs) in
+    let one = length-append (r.symbol ∷ r.letter ∷ joined four r.numbers) (length r.word ∷ r.word) in
+    let f = four_length r.numbers in
+    omega arith
 
 -- the test for a rule
 module _ (A a : ℕ) where
@@ -151,82 +167,102 @@ index_apart A a B b h k not e =
 index_within : (A a : ℕ) → A < 32 → Letter a → index A a < 832
 index_within A a h k = let low = k.0 in let high = k.1 in omega arith
 
--- the rules done and those to do, the bytes left, and the table so far
-pub record Passed (k : ℕ) (rs : List FileRule) (left : List ℕ) (ps : List (Option (Bor (List ℕ)))) : Type 0 where
+-- the rules done and those to do, the bytes left, the place of the next rule, and the table so far
+pub record Passed (k : ℕ) (bs : List ℕ) (rs : List FileRule) (left : List ℕ) (place : ℕ) (ps : List ℕ) : Type 0 where
   pub done : List FileRule
   pub todo : List FileRule
   pub parts : rs ≡ done ++ todo
   pub rest : left ≡ joined rule_bytes todo
-  pub placed : Placed k done ps
+  pub place_is : place ≡ suc (length (joined rule_bytes done))
+  pub placed : Placed k bs done ps
 
 module _ (k : ℕ) (bs : List ℕ) (rs : List FileRule) (h : RulesOf k bs rs) where
   -- the start
-  pub passed_none : Passed k rs bs (replicate 832 None)
+  pub passed_none : Passed k bs rs bs 1 (replicate 832 0)
   passed_none = record {
     done = [];
     todo = rs;
     parts = refl;
     rest = h.bytes;
-    placed = λ A a few l. ap (option_map (rule_of k)) (ap (option_map (λ x. x.now)) (get_or-replicate 832 (index A a) None None (index_within A a few l)));
+    place_is = refl;
+    placed = λ A a few l. ap (λ p. option_map (rule_of k) (from_place bs p)) (get_or-replicate 832 (index A a) 0 0 (index_within A a few l));
   }
 
   -- the end: nothing is to do
-  pub passed_all : (left : List ℕ) (ps : List (Option (Bor (List ℕ)))) → Passed k rs left ps → length left < 2 → Placed k rs ps
-  passed_all left ps w short = at w.todo w.parts w.rest
+  pub passed_all : (left : List ℕ) (place : ℕ) (ps : List ℕ) → Passed k bs rs left place ps → length left < 2 → Placed k bs rs ps
+  passed_all left place ps w short = at w.todo w.parts w.rest
     where
-      at : (todo : List FileRule) → rs ≡ w.done ++ todo → left ≡ joined rule_bytes todo → Placed k rs ps
-      at [] e d = subst (λ xs. Placed k xs ps) (sym (e ∙ append-nil w.done)) w.placed
+      at : (todo : List FileRule) → rs ≡ w.done ++ todo → left ≡ joined rule_bytes todo → Placed k bs rs ps
+      at [] e d = subst (λ xs. Placed k bs xs ps) (sym (e ∙ append-nil w.done)) w.placed
       at (r ∷ todo) e d = absurd (omega (arith, ap length d))
 
-  -- the turn: the next rule is written at its place, and its bytes are passed
-  pub passed_more : (left : Bor (List ℕ)) (ps : List (Option (Bor (List ℕ)))) → length ps ≡ 832 → 2 ≤ length left.now → Passed k rs left.now ps →
-      (rest : List ℕ) → rest ≡ drop (4 * k + 3 + get_or left.now (4 * k + 2) 0) left.now →
-      (qs : List (Option (Bor (List ℕ)))) → qs ≡ set ps (index (get_or left.now 0 0) (get_or left.now 1 0)) (Some left) → Passed k rs rest qs
-  passed_more left ps room long w rest rest_is qs qs-is = at w.todo w.parts w.rest
+  -- the turn: the place of the next rule is written, and its bytes are passed
+  pub passed_more : k ≤ 2 → (left : List ℕ) (place : ℕ) (ps : List ℕ) → length ps ≡ 832 → 2 ≤ length left → Passed k bs rs left place ps →
+      (size : ℕ) → size ≡ 4 * k + 3 + get_or left (4 * k + 2) 0 → (rest : List ℕ) → rest ≡ drop size left → (next : ℕ) → next ≡ min (place + size) 65535 →
+      (qs : List ℕ) → qs ≡ set ps (index (get_or left 0 0) (get_or left 1 0)) place → Passed k bs rs rest next qs
+  passed_more few_kinds left place ps room long w size size_is rest rest_is next next-is qs qs-is = at w.todo w.parts w.rest
     where
-      at : (todo : List FileRule) → rs ≡ w.done ++ todo → left.now ≡ joined rule_bytes todo → Passed k rs rest qs
+      at : (todo : List FileRule) → rs ≡ w.done ++ todo → left ≡ joined rule_bytes todo → Passed k bs rs rest next qs
       at [] e d = absurd (omega (arith, ap length d))
       at (r ∷ todo) e d = record {
         done = w.done ++ (r ∷ []);
         todo = todo;
         parts = parts;
         rest = rest_is ∙ ap₂ drop long_is d ∙ drop_at (rule_bytes r) (joined rule_bytes todo) (length (rule_bytes r)) refl;
-        placed = λ A a few l. ap (λ q. option_map (rule_of k) (rule_in q (index A a))) qs-is ∙ here A a few l (at_rule A a r) refl;
+        place_is = next-is ∙ farther;
+        placed = λ A a few l. ap (λ q. option_map (rule_of k) (from_place bs (get_or q (index A a) 0))) qs-is ∙ here A a few l (at_rule A a r) refl;
       }
         where
           parts : rs ≡ (w.done ++ (r ∷ [])) ++ todo
           parts = e ∙ sym (append_assoc w.done (r ∷ []) todo)
 
-          each : All (LegalRule h.symbols k) (w.done ++ (r ∷ todo))
-          each = subst (All (LegalRule h.symbols k)) e h.legal.each
+          each : All (LegalRule h.symbols k) ((w.done ++ (r ∷ [])) ++ todo)
+          each = subst (All (LegalRule h.symbols k)) parts h.legal.each
 
           legal : LegalRule h.symbols k r
-          legal = (all_back (LegalRule h.symbols k) w.done (r ∷ todo) each).0
+          legal = (all_back (LegalRule h.symbols k) w.done (r ∷ []) (all_front (LegalRule h.symbols k) (w.done ++ (r ∷ [])) todo each)).0
 
           rises : Rising After (w.done ++ (r ∷ todo))
           rises = subst (Rising After) e h.legal.rising
 
-          long_is : 4 * k + 3 + get_or left.now (4 * k + 2) 0 ≡ length (rule_bytes r)
-          long_is = ap (λ l. 4 * k + 3 + get_or l (4 * k + 2) 0) d ∙ size_read h.symbols k h.few r legal (joined rule_bytes todo)
+          long_is : size ≡ length (rule_bytes r)
+          long_is = size_is ∙ ap (λ l. 4 * k + 3 + get_or l (4 * k + 2) 0) d ∙ size_read h.symbols k h.few r legal (joined rule_bytes todo)
 
-          found : Some (rule_of k left.now) ≡ Some r
-          found = ap {B = Option FileRule} Some (ap (rule_of k) d ∙ rule_read h.symbols k h.few r legal (joined rule_bytes todo))
+          farther : min (place + size) 65535 ≡ suc (length (joined rule_bytes (w.done ++ (r ∷ []))))
+          farther =
+              let short = rules_short h.symbols k (w.done ++ (r ∷ [])) few_kinds (all_front (LegalRule h.symbols k) (w.done ++ (r ∷ [])) todo each) in
+              let few = h.legal.few in
+              let all = ap length parts ∙ length-append (w.done ++ (r ∷ [])) todo in
+              let sum : length (joined rule_bytes (w.done ++ (r ∷ []))) ≡ length (joined rule_bytes w.done) + length (rule_bytes r) = ap length (joined_push rule_bytes w.done r) ∙ length-append (joined rule_bytes w.done) (rule_bytes r) in
+              let before = w.place_is in
+              let more = long_is in
+              let total : place + size ≡ suc (length (joined rule_bytes (w.done ++ (r ∷ [])))) = omega arith in
+              omega arith
 
-          same_index : index (get_or left.now 0 0) (get_or left.now 1 0) ≡ index r.symbol r.letter
+          bytes : bs ≡ joined rule_bytes w.done ++ (rule_bytes r ++ joined rule_bytes todo)
+          bytes = h.bytes ∙ ap (joined rule_bytes) e ∙ joined_append rule_bytes w.done (r ∷ todo)
+
+          found : option_map (rule_of k) (from_place bs place) ≡ Some r
+          found =
+              ap (λ p. option_map (rule_of k) (from_place bs p)) w.place_is
+              ∙ ap {B = Option FileRule} (λ l. Some (rule_of k l)) (ap (drop (length (joined rule_bytes w.done))) bytes ∙ drop_at (joined rule_bytes w.done) (rule_bytes r ++ joined rule_bytes todo) (length (joined rule_bytes w.done)) refl)
+              ∙ ap {B = Option FileRule} Some (rule_read h.symbols k h.few r legal (joined rule_bytes todo))
+
+          same_index : index (get_or left 0 0) (get_or left 1 0) ≡ index r.symbol r.letter
           same_index = ap (λ l. index (get_or l 0 0) (get_or l 1 0)) d
 
-          here : (A a : ℕ) → A < 32 → Letter a → (b : Bool) → at_rule A a r ≡ b → option_map (rule_of k) (rule_in (set ps (index (get_or left.now 0 0) (get_or left.now 1 0)) (Some left)) (index A a)) ≡ rule_at A a (w.done ++ (r ∷ []))
+          here : (A a : ℕ) → A < 32 → Letter a → (b : Bool) → at_rule A a r ≡ b → option_map (rule_of k) (from_place bs (get_or (set ps (index (get_or left 0 0) (get_or left 1 0)) place) (index A a) 0)) ≡ rule_at A a (w.done ++ (r ∷ []))
           here A a few l true t =
               let is = at_true A a r t in
-              let same : index (get_or left.now 0 0) (get_or left.now 1 0) ≡ index A a = same_index ∙ ap₂ index is.0 is.1 in
+              let same : index (get_or left 0 0) (get_or left 1 0) ≡ index A a = same_index ∙ ap₂ index is.0 is.1 in
               let within : index A a < length ps = let i = index_within A a few l in omega arith in
               let none : rule_at A a w.done ≡ None = ap₂ (λ B b. rule_at B b w.done) (sym is.0) (sym is.1) ∙ rule_at_new w.done r todo rises in
-              ap (λ i. option_map (rule_of k) (rule_in (set ps i (Some left)) (index A a))) same
-              ∙ ap (λ o. option_map (rule_of k) (option_map (λ x. x.now) o)) (get_or-set_same ps (index A a) (Some left) None within)
+              ap (λ i. option_map (rule_of k) (from_place bs (get_or (set ps i place) (index A a) 0))) same
+              ∙ ap (λ p. option_map (rule_of k) (from_place bs p)) (get_or-set_same ps (index A a) place 0 within)
               ∙ found ∙ sym (at_push_here A a w.done r t none)
           here A a few l false t =
               let other : ¬ ((r.symbol ≡ A) × (r.letter ≡ a)) = λ q. both_ways (at_rule A a r) t (true_at A a r q.0 q.1) in
               let apart : index A a ≢ index r.symbol r.letter = index_apart A a r.symbol r.letter l legal.letter other in
-              ap (λ i. option_map (rule_of k) (rule_in (set ps i (Some left)) (index A a))) same_index
-              ∙ ap (λ o. option_map (rule_of k) (option_map (λ x. x.now) o)) (get_or-set_other ps (index r.symbol r.letter) (index A a) (Some left) None apart)
+              ap (λ i. option_map (rule_of k) (from_place bs (get_or (set ps i place) (index A a) 0))) same_index
+              ∙ ap (λ p. option_map (rule_of k) (from_place bs p)) (get_or-set_other ps (index r.symbol r.letter) (index A a) place 0 apart)
               ∙ w.placed A a few l ∙ sym (at_push_other A a w.done r t)

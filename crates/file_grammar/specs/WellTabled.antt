@@ -1,5 +1,5 @@
 -- A table's meaning is well-formed, whatever it holds. Assumes nothing.
-use Rattle.std.specs.Prelude.{◌≡◌, ℕ, ◌≤◌, min, Bool, true, false, cond, ◌&&◌, List, [], length, is_some, Some, None, Option, nat_le, nat_lt, refl}
+use Rattle.std.specs.Prelude.{◌≡◌, ℕ, ◌≤◌, min, Bool, true, false, cond, ◌&&◌, List, [], length, is_some, Some, None, Option, nat_le, nat_lt, slice_index, refl}
 use Rattle.std.proofs.Common.{arith, length-take, ltb-true, leb-true}
 use Rattle.std.proofs.lemmas.List.{length-map}
 use Rattle.std.proofs.lemmas.Bool.{and_parts}
@@ -9,7 +9,7 @@ use Rattle.grammar.specs.Meaning.{Word, Weighted, Each, WellFormed}
 use Rattle.grammar.specs.Listed.{letter}
 use Rattle.grammar.specs.WellListed.{capped_bytes}
 use Rattle.grammar.specs.Places.{index}
-use Rattle.file_grammar.specs.Tabled.{word_of, rule_in, bytes_at, tabled}
+use Rattle.file_grammar.specs.Tabled.{word_of, from_place, bytes_at, tabled}
 use Rattle.file_grammar.specs.declared.rule_table.RuleTable.{RuleTable}
 
 -- a rule has at most four symbols
@@ -36,4 +36,4 @@ tabled_wellformed made t = record {
 }
   where
     tested : (A a : ℕ) → is_some ((tabled made t).rule A a) ≡ true → (nat_lt A (min 255 t.count) ≡ true) × (letter a ≡ true)
-    tested A a e = and_parts (nat_lt A (min 255 t.count)) (letter a) (tested_found _ (nat_lt A (min 255 t.count) && letter a) (rule_in t.rules (index A a)) e)
+    tested A a e = and_parts (nat_lt A (min 255 t.count)) (letter a) (tested_found _ (nat_lt A (min 255 t.count) && letter a) (from_place t.rules.now (slice_index t.places (index A a))) e)

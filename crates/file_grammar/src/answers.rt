@@ -12,7 +12,7 @@ use format::{Checked, FileTally, check_file};
 use grammar::Grammar;
 use std::marker::PhantomData;
 
-// A grammar over the bytes of a file: its rules lie in the bytes, and a table lends each of them.
+// A grammar over the bytes of a file: its rules lie in the bytes, and a table has their places.
 #[derive(Drop)]
 pub struct FileGrammar<'a, T> {
     table: RuleTable<'a>,

@@ -1,5 +1,5 @@
 // The table of a checked file, filled in one pass over the bytes of its rules.
-ghost use Rattle.std.specs.Prelude.{◌≡◌, List, Some, slice_set};
+ghost use Rattle.std.specs.Prelude.{◌≡◌, ◌≤◌, List, slice_set};
 ghost use Rattle.layout.specs.Contents.{FileRule, Contents, Legal};
 ghost use Rattle.file_grammar.specs.Placed.{RulesOf, Placed, Tables};
 ghost use Rattle.grammar.specs.Places.{index};
@@ -10,29 +10,32 @@ use crate::rule_table::RuleTable;
 use format::Checked;
 use grammar::{PLACES, index_of};
 
-// Writes the rule for the symbol and the letter at its place.
-fn put<'a>(rules: &mut [Option<&'a [u8]>; PLACES], symbol: u8, letter: u8, rule: &'a [u8])
-    ensures { rules.new ≡ slice_set rules.old (index symbol letter) (Some rule.entry) }
+// Writes the place of the rule for the symbol and the letter.
+fn put(places: &mut [u16; PLACES], symbol: u8, letter: u8, place: u16)
+    ensures { places.new ≡ slice_set places.old (index symbol letter) place }
 {
     // By index: with `get_mut` the proof did not close.
     let at = index_of(symbol, letter);
     if at < PLACES {
-        rules[at] = Some(rule);
+        places[at] = place;
     }
 }
 
-// The rules that the bytes encode, each at its place.
-fn placed<'a>(bytes: &'a [u8], kinds: u8) -> [Option<&'a [u8]>; PLACES]
-    ensures { (rs : List FileRule) → RulesOf kinds bytes.now rs → Placed kinds rs result }
+// The places of the rules that the bytes encode. With two kinds at most, as in a file, each fits in a u16.
+fn placed(bytes: &[u8], kinds: u8) -> [u16; PLACES]
+    ensures { (rs : List FileRule) → kinds ≤ 2 → RulesOf kinds bytes.now rs → Placed kinds bytes.now rs result }
 {
-    let mut rules = [None; PLACES];
+    let mut places = [0; PLACES];
     let mut left = bytes;
+    let mut place = 1u16;
     // No count: rules are taken off the front until none is left.
     while let [symbol, letter, ..] = left {
-        put(&mut rules, *symbol, *letter, left);
-        left = RuleBytes { bytes: left, kinds }.rest();
+        put(&mut places, *symbol, *letter, place);
+        let rule = RuleBytes { bytes: left, kinds };
+        place = place.saturating_add(rule.size());
+        left = rule.rest();
     }
-    rules
+    places
 }
 
 // The table of a checked file.
@@ -42,11 +45,13 @@ pub(crate) fn table_of<'a>(file: Checked<'a>) -> RuleTable<'a>
     // A checked file has at most 32 names and two kinds.
     let count = u8::try_from(file.names.len()).unwrap_or(u8::MAX);
     let kinds = u8::try_from(file.kinds.len()).unwrap_or(u8::MAX);
-    let rules = placed(file.rules.bytes, kinds);
+    let rules = file.rules.bytes;
+    let places = placed(rules, kinds);
     RuleTable {
         count,
         kinds,
         rules,
+        places,
     }
 }
 
@@ -57,6 +62,7 @@ pub(crate) fn empty_table<'a>() -> RuleTable<'a>
     RuleTable {
         count: 0,
         kinds: 0,
-        rules: [None; PLACES],
+        rules: &[],
+        places: [0; PLACES],
     }
 }

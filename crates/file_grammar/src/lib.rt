@@ -1,4 +1,4 @@
-// The grammar that a file holds: a table of the rules, each lent from the file's bytes.
+// The grammar that a file holds: a table of the rules' places over the file's bytes.
 #![tactic(auto)]
 
 mod answers;

@@ -33,12 +33,18 @@ impl<'a> RuleBytes<'a> {
         &self.bytes[at.min(self.bytes.len())..]
     }
 
-    // What follows the rule: behind its symbol, its letter, four bytes for each number, its length and its word.
+    // How many bytes the rule has: its symbol, its letter, four for each number, its length and its word.
+    pub(crate) fn size(&self) -> u16
+        ensures { result ≡ 4 * self.now.kinds + 3 + slice_index self.now.bytes.now (4 * self.now.kinds + 2) }
+    {
+        4 * u16::from(self.kinds) + 3 + u16::from(self.byte(self.length_place()))
+    }
+
+    // What follows the rule.
     pub(crate) fn rest(&self) -> &'a [u8]
         ensures { result.now ≡ drop (4 * self.now.kinds + 3 + slice_index self.now.bytes.now (4 * self.now.kinds + 2)) self.now.bytes.now }
     {
-        let at = self.length_place();
-        self.behind(at + 1 + usize::from(self.byte(at)))
+        self.behind(usize::from(self.size()))
     }
 
     // The number at a place, four bytes, high first; 0 beyond the kinds, as a tally is made of two numbers.
