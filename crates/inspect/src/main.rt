@@ -9,6 +9,7 @@ mod parts;
 
 use inspected::inspect;
 use listing::show;
+use std::env::FillError;
 use std::io::Read;
 use std::rt::{Env, Files};
 use std::{env, fs, io};
@@ -35,11 +36,11 @@ fn print_file(rt: &(impl Print + Input + Files + AllocGlobal), name: &str) -> an
 
 // Prints the files that are named, or standard input.
 fn run(rt: &(impl Print + Input + Files + Env + AllocGlobal)) -> anyhow::Result<()> {
-    let names = env::args(rt)?.skip(1);
-    if names.len() == 0 {
+    // Without arguments none is copied: the program's own name may be no text.
+    if let Err(FillError::NotPresent) = rt.arg(1, &mut [0; 1]) {
         return print_file(rt, "-");
     }
-    for name in names {
+    for name in env::args(rt)?.skip(1) {
         println!(rt; "{name}:")?;
         print_file(rt, name.as_str())?;
     }
