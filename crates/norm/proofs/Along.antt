@@ -1,10 +1,21 @@
 -- Measures along a word, symbol by symbol, and what they say of norms. Assumes nothing.
-use Rattle.std.proofs.Common.{◌≡◌, ℕ, suc, ◌+◌, ◌≤◌, min, Bool, true, false, cond, ltb, [], ◌∷◌, refl, arith, ltb-false, ltb-true, le-ltb}
+use Rattle.std.proofs.Common.{◌≡◌, ℕ, suc, ◌+◌, ◌<◌, ◌≤◌, min, Bool, true, false, cond, ltb, [], ◌∷◌, length, get_or, drop, refl, ◌∙◌, arith, ltb-false, ltb-true, le-ltb, lt-ltb}
+use Rattle.std.proofs.lemmas.List.{at_drop_more, at_drop_all}
 use Rattle.grammar.specs.Meaning.{Word, Each}
 use Rattle.norm.specs.Norms.{norms}
 use Rattle.norm.specs.Measured.{along}
 
 module _ (v : ℕ) (norm : ℕ → ℕ) where
+  -- one symbol on, in a loop over the word
+  pub along_over : (k : ℕ) (w : Word) (i : ℕ) → i < length w → suc v < norm (get_or w i 0) → along v norm k (drop i w) ≡ suc (suc v)
+  along_over k w i h over = at_drop_more (along v norm k) w i 0 h ∙ rw (lt-ltb (suc v) (norm (get_or w i 0)) over)
+
+  pub along_more : (k : ℕ) (w : Word) (i : ℕ) → i < length w → norm (get_or w i 0) ≤ suc v → along v norm k (drop i w) ≡ along v norm (min (k + norm (get_or w i 0)) (suc v)) (drop (i + 1) w)
+  along_more k w i h small = at_drop_more (along v norm k) w i 0 h ∙ rw (le-ltb (suc v) (norm (get_or w i 0)) small)
+
+  pub along_all : (k : ℕ) (w : Word) (i : ℕ) → length w ≤ i → along v norm k (drop i w) ≡ k
+  along_all k w i h = at_drop_all (along v norm k) w i h
+
   -- no more than the norms come to
   pub along_le : (k : ℕ) (w : Word) → along v norm k w ≤ k + norms norm w
   along_le k [] = omega arith

@@ -3,6 +3,10 @@ use Rattle.std.proofs.Common.{◌≡◌, ℕ, [], ◌∷◌, ◌++◌, length, r
 use Rattle.grammar.specs.Meaning.{Input}
 use Rattle.norm.specs.Norms.{NoLater}
 
+pub no_later_same : (s : Input) → NoLater s s
+no_later_same [] = tt
+no_later_same (a ∷ s) = inr (refl, no_later_same s)
+
 pub no_later_both : (s t : Input) → length s ≡ length t → NoLater s t → NoLater t s → s ≡ t
 no_later_both [] [] l h k = refl
 no_later_both [] (b ∷ t) l h k = absurd (omega arith)

@@ -8,8 +8,12 @@ use Rattle.tally.specs.Group.{Group}
 use Rattle.grammar.specs.Meaning.{Word, Input, Weighted, Meaning}
 use Rattle.grammar.specs.Takes.{behind, shift, follow, takes}
 use Rattle.grammar.proofs.Options.{none_some, some_same}
-use Rattle.norm.specs.Words.{raised, onward, ran, words_of, reads}
+use Rattle.norm.specs.Words.{raised, onward, ran, words_of, reads, body}
 use Rattle.norm.specs.Norms.{Taken}
+
+-- the word of a rule that is there
+pub body_is : {T : Type 0} (M : Meaning T) (A a : ℕ) (m : Weighted T) → M.rule A a ≡ Some m → body (words_of M A a) ≡ m.word
+body_is M A a m e = rw e
 
 module _ {T : Type 0} (𝓣 : Group T) where
   -- what a run that ends at the empty word comes to

@@ -4,7 +4,7 @@
 -- A symbol without a measure has only rules through such symbols, so no word with one of them ends.
 --
 -- Assumes nothing.
-use Rattle.std.proofs.Common.{◌≡◌, ℕ, suc, ◌<◌, ◌≤◌, true, ◌⊎◌, List, [], ◌∷◌, ◌++◌, length, get_or, is_some, Some, None, Option, sym, refl, ap, subst, inl, inr, ⊎_elim, arith}
+use Rattle.std.proofs.Common.{◌≡◌, ℕ, suc, ◌<◌, ◌≤◌, true, ◌⊎◌, List, [], ◌∷◌, ◌++◌, length, get_or, is_some, Some, None, Option, sym, refl, ap, subst, inl, inr, ⊎_elim, arith, ◌+◌, set, get_or-set_other, get_or-set_same, below_more}
 use Rattle.std.proofs.lemmas.Bool.{cases_lt}
 use Rattle.grammar.specs.Meaning.{Word, Input, Each, Below}
 use Rattle.grammar.specs.Listed.{letter}
@@ -21,6 +21,13 @@ use Rattle.norm.proofs.Certificates as certificates
 use Rattle.norm.proofs.Certificates.{ends_step, word_there}
 use Rattle.norm.proofs.Stored.{stored_counted}
 use Rattle.norm.proofs.Weights.{each_from_places, each_front, each_back}
+
+-- a list that is filled in, one place on
+pub filled_more : (P : ℕ → ℕ → Type 0) (xs : List ℕ) (i x : ℕ) → i < length xs → ((A : ℕ) → A < i → P A (get_or xs A 0)) → P i x → (A : ℕ) → A < i + 1 → P A (get_or (set xs i x) A 0)
+filled_more P xs i x h below here =
+    below_more (λ A. P A (get_or (set xs i x) A 0)) i
+    (λ A l. subst (P A) (sym (get_or-set_other xs i A x 0 (λ e. omega arith))) (below A l))
+    (subst (P i) (sym (get_or-set_same xs i x 0 h)) here)
 
 makes_top : (v : ℕ) (norm : ℕ → ℕ) (o : Option Word) → makes v norm o ≤ suc (suc v)
 makes_top v norm None = omega arith

@@ -79,6 +79,10 @@ module _ (k : Skeleton) where
     pub spelt_none : (out : List ℕ) → Below count w → norms (norm_at k) w ≡ n → length out ≡ n → Spelt 0 w out
     spelt_none out b e l = record { below = b; left = omega arith; rest = ap (λ j. spelled R (letter_at k) j w) (sym e); done = refl; size = l }
 
+    -- something is left while cells are
+    pub spelt_left : (i : ℕ) (x : Word) (out : List ℕ) → Spelt i x out → i < n → ¬ (x ≡ [])
+    spelt_left i x out s h e = let l = s.left in let d = ap (norms (norm_at k)) e in omega arith
+
     pub spelt_room : (i A : ℕ) (r : Word) (out : List ℕ) → Spelt i (A ∷ r) out → length (body (R A (letter_at k A))) + length r ≤ n
     spelt_room i A r out s =
         let l = s.left in

@@ -1,5 +1,6 @@
 -- Sums over the symbols of a word, and what holds of each symbol. Assumes nothing.
-use Rattle.std.proofs.Common.{◌≡◌, ℕ, zero, suc, ◌+◌, ◌<◌, ◌≤◌, min, [], ◌∷◌, ◌++◌, length, get_or, fold, sym, refl, ap, ◌∙◌, append_assoc, arith}
+use Rattle.std.proofs.Common.{◌≡◌, ℕ, zero, suc, ◌+◌, ◌<◌, ◌≤◌, min, [], ◌∷◌, ◌++◌, length, get_or, fold, sym, refl, ap, ◌∙◌, append_assoc, arith, take, subst}
+use Rattle.std.proofs.lemmas.List.{take_more}
 use Rattle.grammar.specs.Meaning.{Word, Input, Each}
 use Rattle.norm.specs.Norms.{norms, firsts}
 
@@ -28,13 +29,25 @@ pub each_within : (norm : ℕ → ℕ) (v : ℕ) (w : Word) → norms norm w ≤
 each_within norm v [] h = tt
 each_within norm v (A ∷ w) h = (omega arith, each_within norm v w (omega arith))
 
+-- with greater norms
+pub norms_more : (norm more : ℕ → ℕ) → ((B : ℕ) → norm B ≤ more B) → (w : Word) → norms norm w ≤ norms more w
+norms_more norm more h [] = omega arith
+norms_more norm more h (B ∷ w) = let l = h B in let k = norms_more norm more h w in omega arith
+
 -- what holds of each symbol holds at each place
 pub each_at : (P : ℕ → Type 0) (w : Word) (i d : ℕ) → i < length w → Each P w → P (get_or w i d)
 each_at P [] i d h e = absurd (omega arith)
 each_at P (A ∷ w) zero d h e = e.0
 each_at P (A ∷ w) (suc i) d h e = each_at P w i d (omega arith) e.1
 
--- and back
+-- one symbol more of a word
+pub each_more : (P : ℕ → Type 0) (w : Word) (i d : ℕ) → i < length w → Each P (take i w) → P (get_or w i d) → Each P (take (i + 1) w)
+each_more P w i d h e p = subst (Each P) (sym (take_more w i d h)) (each_append P (take i w) (get_or w i d ∷ []) e (p, tt))
+
+pub norms_more_symbol : (norm : ℕ → ℕ) (w : Word) (i : ℕ) → i < length w → norms norm (take (i + 1) w) ≡ norms norm (take i w) + norm (get_or w i 0)
+norms_more_symbol norm w i h = let e = norms_append norm (take i w) (get_or w i 0 ∷ []) in ap (norms norm) (take_more w i 0 h) ∙ omega arith
+
+-- what holds at each place holds of each symbol
 pub each_from_places : (P : ℕ → Type 0) (w : Word) → ((k : ℕ) → k < length w → P (get_or w k 0)) → Each P w
 each_from_places P [] h = tt
 each_from_places P (A ∷ w) h = (h 0 (omega arith), each_from_places P w (λ k l. h (suc k) (omega arith)))

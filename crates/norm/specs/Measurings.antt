@@ -16,7 +16,7 @@ use Rattle.norm.specs.declared.measure.Measuring.{Measuring}
 
 module _ (m : Measuring) where
   abbrev pub rules : Words
-  rules = rules_of m.words
+  rules = rules_of m.words.now
 
   abbrev pub measured : ℕ → ℕ
   measured = measure m.measures
@@ -25,7 +25,7 @@ module _ (m : Measuring) where
   IsBest A b = Best 64 rules measured A b.measure b.letter
 
   abbrev pub IsReached : Type 0
-  IsReached = Reached 64 m.words.count rules measured
+  IsReached = Reached 64 m.words.now.count rules measured
 
   abbrev pub IsSettled : Type 0
-  IsSettled = Settled 64 m.words.count rules measured
+  IsSettled = Settled 64 m.words.now.count rules measured

@@ -13,7 +13,7 @@ impl Skeleton {
     pub fn new(words: RuleWords) -> Result<Skeleton, NormFault>
         ensures { elim result [ Ok s ↦ s.words ≡ words | Err f ↦ Unnormed 64 words.count (rules_of words) f ] }
     {
-        let measuring = Measuring::settled(words);
+        let measuring = Measuring::settled(&words);
         let best_rules = measuring.best_rules();
         if let Some(symbol) = measuring.first_above(TOO_LONG) {
             return Err(NormFault::NoInput(symbol));
@@ -21,7 +21,6 @@ impl Skeleton {
         if let Some(symbol) = measuring.first_above(MAX_NORM) {
             return Err(NormFault::TooLong(symbol));
         }
-        let words = measuring.words;
         Ok(Skeleton { words, best_rules })
     }
 }

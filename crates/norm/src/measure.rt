@@ -13,15 +13,15 @@ pub(crate) const TOO_LONG: u8 = MAX_NORM + 1;
 
 pub(crate) const NO_INPUT: u8 = TOO_LONG + 1;
 
-// Norms as they are measured: the words of the rules, and the least measure yet of each symbol.
+// Norms as they are measured: the words of the rules, lent, and the least measure yet of each symbol.
 #[derive(Drop)]
-pub(crate) struct Measuring {
-    pub(crate) words: RuleWords,
+pub(crate) struct Measuring<'a> {
+    words: &'a RuleWords,
     measures: [u8; SYMBOLS],
     ghost room: { length measures ≡ 32 },
 }
 
-impl Measuring {
+impl<'a> Measuring<'a> {
     ghost use Rattle.std.specs.Prelude.{ℕ, ◌<◌, ◌≤◌, true, false, sum, MatchOption};
     ghost use Rattle.norm.specs.Measured.{through as made_of, makes, best_at};
     ghost use Rattle.norm.specs.Measurings.{rules, measured, IsBest, IsReached, IsSettled};
@@ -55,9 +55,11 @@ impl Measuring {
     fn rule(&self, symbol: u8, letter: u8) -> u8
         ensures { result ≡ makes 64 (measured self.now) (rules self.now symbol letter) }
     {
-        self.words
-            .word(symbol, letter)
-            .map_or(NO_INPUT, |word| self.through(word.as_slice()))
+        // No map_or: its closure would make two calls over a loan, and so have to write out what it ensures.
+        match self.words.word(symbol, letter) {
+            Some(word) => self.through(word.as_slice()),
+            None => NO_INPUT,
+        }
     }
 
     // The best rule of a symbol. No `min_by_key`: it would want a filter before, and is
@@ -65,6 +67,10 @@ impl Measuring {
     fn best_rule(&self, symbol: u8) -> BestRule
         ensures { IsBest self.now symbol result }
     {
+        // Such a symbol has no rule, so none is looked for.
+        if symbol >= self.words.count {
+            return NO_RULE;
+        }
         let mut best = NO_RULE;
         for letter in b'A'..=b'Z' {
             let measure = self.rule(symbol, letter);
@@ -84,7 +90,7 @@ impl Measuring {
 
     // Lowers the measure of each symbol to what its best rule makes of it; whether one fell.
     fn lower_all(&mut self) -> bool
-        ensures words { self.new.words ≡ self.old.words }
+        ensures words { self.new.words.now ≡ self.old.words.now }
         ensures keeps { IsReached self.old → IsReached self.new }
         ensures falls { result ≡ true → sum self.new.measures < sum self.old.measures }
         ensures settled { result ≡ false → IsSettled self.new }
@@ -102,8 +108,8 @@ impl Measuring {
     }
 
     // Measures all symbols: what is measured is had, and no rule makes less of it.
-    pub(crate) fn settled(words: RuleWords) -> Measuring
-        ensures words { result.words ≡ words }
+    pub(crate) fn settled(words: &'a RuleWords) -> Measuring<'a>
+        ensures words { result.words.now ≡ words.now }
         ensures reached { IsReached result }
         ensures settled { IsSettled result }
     {
@@ -116,7 +122,7 @@ impl Measuring {
 
     // The smallest symbol whose measure is above the limit.
     pub(crate) fn first_above(&self, limit: u8) -> Option<u8>
-        ensures { MatchOption result ((A : ℕ) → A < self.now.words.count → measured self.now A ≤ limit) (λ A. (A < self.now.words.count) × (limit < measured self.now A) × ((B : ℕ) → B < A → measured self.now B ≤ limit)) }
+        ensures { MatchOption result ((A : ℕ) → A < self.now.words.now.count → measured self.now A ≤ limit) (λ A. (A < self.now.words.now.count) × (limit < measured self.now A) × ((B : ℕ) → B < A → measured self.now B ≤ limit)) }
     {
         (0..self.words.count).find(|symbol| self.of(*symbol) > limit)
     }

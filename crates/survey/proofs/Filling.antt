@@ -3,7 +3,7 @@
 -- The idea: no two rules have one place, so what holds of the rules visited so far stays when the next is put in.
 --
 -- Assumes nothing.
-use Rattle.std.proofs.Common.{◌≡◌, ℕ, ◌+◌, ◌<◌, true, false, ◌&&◌, ltb, leb, ◌⊎◌, List, length, get_or, set, is_some, Some, None, Option, sym, refl, ap, ◌∙◌, subst, inl, inr, ⊎_elim, arith, length-set, get_or-set_other, get_or-set_same, ltb-false, ltb-true, leb-false}
+use Rattle.std.proofs.Common.{◌≡◌, ℕ, ◌+◌, ◌<◌, true, false, ◌&&◌, ltb, leb, ◌⊎◌, List, length, get_or, set, is_some, Some, None, Option, sym, refl, ap, ◌∙◌, subst, inl, inr, ⊎_elim, arith, length-set, get_or-set_other, get_or-set_same, ltb-false, ltb-true, leb-false, ◌/◌, ◌%◌, below_more}
 use Rattle.std.proofs.lemmas.Bool.{cases_Bool, cases_eq, cond-true, cond-false, and_parts, and_cases}
 use Rattle.std.specs.Option.{option_map}
 use Rattle.tally.specs.Group.{Group}
@@ -66,6 +66,21 @@ module _ {T : Type 0} (M : Meaning T) where
   -- the table has the words of fine rules
   abbrev pub Filled : List (Option (ShortWord 4)) → ℕ → ℕ → Type 0
   Filled = Placed (λ A a o. (option_map held o ≡ words_of M A a) × Fine M.count M A a)
+
+  -- the same by places: those below k have the words of fine rules
+  pub record FilledBelow (ws : List (Option (ShortWord 4))) (k : ℕ) : Type 0 where
+    pub size : length ws ≡ 832
+    pub words : (j : ℕ) → j < k → option_map held (get_or ws j None) ≡ words_of M (j / 26) (65 + j % 26)
+    pub rules : (j : ℕ) → j < k → Fine M.count M (j / 26) (65 + j % 26)
+
+  pub filled_more : (ws : List (Option (ShortWord 4))) (k : ℕ) (o : Option (ShortWord 4)) → FilledBelow ws k → k < 832 → option_map held o ≡ words_of M (k / 26) (65 + k % 26) → Fine M.count M (k / 26) (65 + k % 26) → FilledBelow (set ws k o) (k + 1)
+  filled_more ws k o f h e r = record {
+    size = length-set ws k o ∙ f.size;
+    words = below_more (λ j. option_map held (get_or (set ws k o) j None) ≡ words_of M (j / 26) (65 + j % 26)) k
+        (λ j l. ap (option_map held) (get_or-set_other ws k j o None (λ d. omega arith)) ∙ f.words j l)
+        (ap (option_map held) (get_or-set_same ws k o None (let s = f.size in omega arith)) ∙ e);
+    rules = below_more (λ j. Fine M.count M (j / 26) (65 + j % 26)) k f.rules r;
+  }
 
   module _ (F : WellFormed M) where
     -- where there can be no rule, there is none, and nothing is wrong

@@ -1,7 +1,7 @@
 // Takes up the rules of a grammar of any make.
 ghost use Rattle.std.specs.Prelude.{◌≡◌, ℕ, ◌<◌, length, Ok, Err, slice_index_or};
 ghost use Rattle.std.specs.Option.{option_map};
-ghost use Rattle.grammar.specs.Meaning.{Letter, tally_of};
+ghost use Rattle.grammar.specs.Meaning.{Letter, word_of, tally_of};
 ghost use Rattle.norm.specs.Words.{words_of};
 ghost use Rattle.grammar.specs.Places.{index};
 ghost use Rattle.norm.specs.Tabled.{held};
@@ -12,6 +12,18 @@ use crate::fault::GrammarFault;
 use grammar::{Grammar, PLACES, index_of};
 use norm::{MAX_RULE, MAX_SYMBOLS, RuleWords, ShortWord};
 use tally::Tally;
+
+// The symbol at a place of a rule's word, which has this length; 255 beyond its end. The grammar is asked only
+// for symbols that are there: one that is a list looks through its rules at each question.
+fn symbol_at<G: Grammar>(g: &G, symbol: u8, letter: u8, len: u8, at: u8) -> u8
+    ensures { len ≡ length (word_of ((G.Grammar.meaning g.now).rule symbol letter)) → result ≡ slice_index_or (word_of ((G.Grammar.meaning g.now).rule symbol letter)) at 255 }
+{
+    if at < len {
+        g.rule_symbol(symbol, letter, at)
+    } else {
+        255
+    }
+}
 
 // The word of the rule for the symbol and the letter, if there is a rule; or what is wrong with it.
 fn rule_word<G: Grammar>(
@@ -26,7 +38,7 @@ fn rule_word<G: Grammar>(
     if len > MAX_RULE {
         return Err(GrammarFault::LongRule { symbol, letter });
     }
-    let symbols = std::array::from_fn(|at| g.rule_symbol(symbol, letter, at as u8));
+    let symbols = std::array::from_fn(|at| symbol_at(g, symbol, letter, len, at as u8));
     let word = ShortWord { symbols, len };
     if !word.as_slice().iter().all(|named| *named < count) {
         return Err(GrammarFault::StraySymbol { symbol, letter });

@@ -10,12 +10,12 @@ use Rattle.norm.proofs.measure.Measuring.lower_all.Goals.{then-best-self, else-b
 pub loop-symbol-preserved : goal.loop-symbol-preserved
 loop-symbol-preserved c =
     let m = c.args.self.now in
-    let t = m.words in
+    let t = m.words.now in
     let l = c.loop-symbol in
     let b = c.best_rule-best in
     let j = c.if-best-self in
     let best = subst (λ ws. Best 64 (rules_of ws) (measure l.self.measures) l.symbol b.result.measure b.result.letter) l.invariant.0 b.ensures in (
-      elim j.branch [ then-best-self w ↦ ap (λ s. s.words) w.self-is ∙ l.invariant.0 | else-best-self w ↦ ap (λ s. s.words) w.self-is ∙ l.invariant.0 ],
+      elim j.branch [ then-best-self w ↦ ap (λ s. s.words.now) w.self-is ∙ l.invariant.0 | else-best-self w ↦ ap (λ s. s.words.now) w.self-is ∙ l.invariant.0 ],
       passing_on 64 t.count (rules_of t) (λ A a. each_from_places _ (body (rules_of t A a)) (t.known A a)) m.measures
           l.symbol b.result.measure l.self.measures j.self.measures l.fell j.fell l.invariant.1 (omega arith) b.result.letter best
           (elim j.branch [
