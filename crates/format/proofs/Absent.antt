@@ -1,8 +1,10 @@
 -- A byte that is none of a list. Assumes nothing.
-use Rattle.std.proofs.Common.{◌≡◌, ℕ, Bool, true, false, not, ◌&&◌, ◌||◌, eqb, List, [], ◌∷◌, reverse, refl, sym, ap, ◌∙◌}
+use Rattle.std.proofs.Common.{◌≡◌, ℕ, ◌+◌, ◌<◌, ◌≤◌, Bool, true, false, not, ◌&&◌, ◌||◌, eqb, List, [], ◌∷◌, reverse, length, get_or, drop, refl, sym, ap, ◌∙◌, eq-eqb, ne_eqb}
 use mathlib.Core.List.{reverse-cons}
 use Rattle.std.specs.List.{list_any}
+use Rattle.std.proofs.lemmas.List.{drop_all}
 use Rattle.std.proofs.lemmas.List.Folds.{list_any-append}
+use Rattle.grammar.proofs.Lists.{opened}
 use Rattle.layout.specs.Reading.{absent}
 
 not_or : (a b : Bool) → not (a || b) ≡ (not a && not b)
@@ -31,3 +33,18 @@ module _ (b : ℕ) where
 
   pub absent_reverse : (xs : List ℕ) → not (list_any (λ x. eqb x b) xs) ≡ absent b (reverse xs)
   absent_reverse xs = ap not (any_reverse xs) ∙ absent_any (reverse xs)
+
+  -- in either order
+  pub absent_turned : (xs : List ℕ) → absent b xs ≡ absent b (reverse xs)
+  absent_turned xs = sym (absent_any xs) ∙ absent_reverse xs
+
+  -- place by place
+  module _ (xs : List ℕ) (i : ℕ) where
+    pub absent_here : i < length xs → get_or xs i 0 ≡ b → absent b (drop i xs) ≡ false
+    absent_here h e = ap (absent b) (opened xs i (get_or xs i 0) 0 h refl) ∙ ap (λ t. not t && absent b (drop (i + 1) xs)) (eq-eqb (get_or xs i 0) b e)
+
+    pub absent_later : i < length xs → (get_or xs i 0 ≡ b → ⊥) → absent b (drop i xs) ≡ absent b (drop (i + 1) xs)
+    absent_later h e = ap (absent b) (opened xs i (get_or xs i 0) 0 h refl) ∙ ap (λ t. not t && absent b (drop (i + 1) xs)) (ne_eqb (get_or xs i 0) b e)
+
+    pub absent_all : length xs ≤ i → absent b (drop i xs) ≡ true
+    absent_all h = ap (absent b) (drop_all i xs h)

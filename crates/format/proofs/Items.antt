@@ -1,11 +1,11 @@
 -- Loops over items: after k turns of a reader, k items are read.
 --
 -- On item total n s P k r   the reader r has read k of the n items of s, and P holds of them, the newest first, and of what is left
--- on_more                   after one item more
+-- on_none, on_more          before the first item, and after one more
 -- on_wrong, on_all          where an item has a fault, and after the last one
 --
 -- Assumes nothing.
-use Rattle.std.proofs.Common.{◌≡◌, ℕ, suc, ◌+◌, ◌-◌, ◌<◌, List, [], ◌∷◌, reverse, length, get_or, Ok, Err, Result, sym, ap, ◌∙◌, add-one, arith}
+use Rattle.std.proofs.Common.{◌≡◌, ℕ, suc, ◌+◌, ◌-◌, ◌<◌, List, [], ◌∷◌, reverse, length, get_or, Ok, Err, Result, sym, refl, ap, ◌∙◌, ap₂, add-one, arith}
 use lib.ListN.{length-reverse}
 use Rattle.layout.specs.Laws.{Bytes}
 use Rattle.layout.specs.Reading.{Read, Reading, then, many}
@@ -37,6 +37,12 @@ module _ {X : Type 0} (item : ℕ → List X → Reading X) (total n : ℕ) (s :
     pub reads : many total (item total) n [] s ≡ many total (item total) (n - k) items r.left.now
     pub same : r.total ≡ total
     pub known : P items r.left.now
+
+  pub on_none : (P : List X → List ℕ → Type 0) (r : Reader) → r.left.now ≡ s → r.total ≡ total → P [] r.left.now → On P 0 r
+  on_none P r e same known = record { items = []; long = refl; reads = ap₂ (λ m bs. many total (item total) m [] bs) (minus_zero n) (sym e); same = same; known = known }
+    where
+      minus_zero : (n : ℕ) → n ≡ n - 0
+      minus_zero n = omega arith
 
 module _ {X : Type 0} {item : ℕ → List X → Reading X} {total n : ℕ} {s : List ℕ} {P : List X → List ℕ → Type 0} {k : ℕ} {r : Reader} (w : On item total n s P k r) where
   turn : k < n → many total (item total) n [] s ≡ then (item r.total w.items r.left.now) (λ x. many total (item total) (n - (k + 1)) (x ∷ w.items))

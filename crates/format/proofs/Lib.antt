@@ -1,5 +1,8 @@
+pub mod Slices
+pub mod Loops
 pub mod Fields
 pub mod Absent
+pub mod Rowwise
 pub mod Skips
 pub mod Items
 pub mod Stages

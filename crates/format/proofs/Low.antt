@@ -3,9 +3,10 @@
 -- joined_same      two ways to encode items that agree on each
 -- counted_same, rule_same, row_same, low_same   what fits, or is legal, has the bytes of its encoding
 -- canonical                                     legal contents are written as they are encoded, and read back
--- two_same         a count's bytes as they are cut out of it
+-- two_same, four_same                           a number's bytes as they are cut out of it
 -- joined_map       two ways to encode items seen through a function
--- puts_contents    the sections, one behind the other
+-- wrote_contents   the sections, one behind the other
+-- puts_contents    the same by a writer
 --
 -- Assumes nothing.
 use Rattle.std.proofs.Common.{◌≡◌, ℕ, ◌/◌, ◌%◌, ◌^◌, ◌<◌, List, [], ◌∷◌, ◌++◌, map, length, sym, refl, ap, ◌∙◌, ap₂, append_assoc, arith}
@@ -14,10 +15,10 @@ use Rattle.layout.specs.Contents.{FileRule, FileRow, Contents, All, LegalRule, L
 use Rattle.layout.specs.Reading.{value_of}
 use Rattle.layout.proofs.Law.{reads}
 use Rattle.format.specs.Views.{row_of}
-use Rattle.format.specs.Lent.{rule_of, contents_of, counted, low_rule, low_row, low_encode, Puts, Canonical}
+use Rattle.format.specs.Lent.{rule_of, contents_of, counted, low_rule, low_row, low_encode, Wrote, Puts, Canonical}
 use Rattle.format.specs.declared.contents.FileContents.{FileContents}
 use Rattle.format.specs.declared.encode.Writer.{Writer}
-use Rattle.format.proofs.Writes.{puts_as, puts_then}
+use Rattle.format.proofs.Writes.{wrote_as, wrote_then, puts_as, puts_then}
 
 joined_same : {X : Type 0} (P : X → Type 0) (f g : X → List ℕ) → ((x : X) → P x → f x ≡ g x) → (xs : List X) → All P xs → joined f xs ≡ joined g xs
 joined_same P f g e [] h = refl
@@ -48,10 +49,27 @@ canonical c h = record { written = low_same c h; reads_back = ap value_of (reads
 pub two_same : (n : ℕ) → n < 2 ^ 16 → n / 256 % 256 ∷ n % 256 ∷ [] ≡ two n
 two_same n h = ap (λ m. m ∷ n % 256 ∷ []) (omega arith)
 
+pub four_same : (n : ℕ) → n < 2 ^ 32 → n / 16777216 % 256 ∷ n / 65536 % 256 ∷ n / 256 % 256 ∷ n % 256 ∷ [] ≡ four n
+four_same n h = ap (λ m. m ∷ n / 65536 % 256 ∷ n / 256 % 256 ∷ n % 256 ∷ []) (omega arith)
+
 -- items that are seen through g
 joined_map : {X Y : Type 0} (f : Y → List ℕ) (g : X → Y) (xs : List X) → joined (λ x. f (g x)) xs ≡ joined f (map g xs)
 joined_map f g [] = refl
 joined_map f g (x ∷ xs) = ap (λ l. f (g x) ++ l) (joined_map f g xs)
+
+pub wrote_contents : (c : FileContents) {o a b d e f q : List ℕ} {i j k l m n : ℕ} → length o < 2 ^ 64 →
+    Wrote o 0 (counted c.names.now) i a → Wrote a i (counted c.kinds.now) j b → Wrote b j (two (length c.rules.now % 65536)) k d →
+    Wrote d k (joined low_rule (map rule_of c.rules.now)) l e →
+    Wrote e l (length c.rows.now % 256 ∷ []) m f → Wrote f m (joined low_row (map row_of c.rows.now)) n q → Wrote o 0 (low_encode (contents_of c)) n q
+wrote_contents c room names kinds count rules rows each =
+    let C = contents_of c in
+    let heads = counted C.names ++ counted C.kinds in
+    let front = λ (x : ℕ). heads ++ two (x % 65536) ++ joined low_rule C.rules in
+    let written = wrote_then room (wrote_then room (wrote_then room (wrote_then room (wrote_then room names kinds) count) rules) rows) each in
+    let x = length c.rules.now in
+    let y = length c.rows.now in
+    let same = ap₂ (λ v w. front v ++ (w % 256 ∷ joined low_row C.rows)) (sym (length-map c.rules.now rule_of)) (sym (length-map c.rows.now row_of)) in
+    wrote_as (append_assoc (front x) (y % 256 ∷ []) (joined low_row C.rows) ∙ same) written
 
 pub puts_contents : (c : FileContents) {w a b d e f v : Writer} → length w.out.now < 2 ^ 64 →
     Puts w (counted c.names.now) a → Puts a (counted c.kinds.now) b → Puts b (two (length c.rules.now % 65536)) d →

@@ -1,11 +1,13 @@
 -- The check, section by section.
 --
+-- from_SECTION, to_SECTION what is read from a section on; the whole reading is that, where those before it were read
+-- not_fit                  or the kinds are others
 -- AtRules, AtRows, AtEnd   the whole reading goes on as it does from the rules, from the rows, or behind them
 -- at_rules .. at_end       each where the section before it was read, by a reader that knows the number of all bytes
 -- rules_wrong, rows_wrong  a fault of a section is that of the whole
 --
 -- Assumes nothing.
-use Rattle.std.proofs.Common.{◌≡◌, ℕ, ◌≤◌, Bool, true, List, [], ◌∷◌, length, Ok, Err, Result, sym, refl, ap, ◌∙◌}
+use Rattle.std.proofs.Common.{◌≡◌, ℕ, ◌≤◌, Bool, true, false, List, [], ◌∷◌, length, Ok, Err, Result, sym, refl, ap, ◌∙◌}
 use Rattle.layout.specs.Contents.{FileRule, FileRow, Contents}
 use Rattle.layout.specs.Reading.{Read, Reading, then, given, names, kinds, same_kinds, rules, rows, ended, whole, value_of}
 use Rattle.layout.specs.declared.fault.Fault.{Fault}
@@ -17,15 +19,42 @@ abbrev pub contents : List ℕ → List ℕ → List FileRule → List FileRow �
 contents ns fs rs ws = record { names = ns; kinds = fs; rules = rs; rows = ws }
 
 module _ (total : ℕ) where
-  -- what is read from the rows on, from the rules on, and from the test of the kinds on
-  abbrev from_rows : List ℕ → List ℕ → List FileRule → Reading Contents
+  -- what is read from the rows on, from the rules on, from the test of the kinds on, and from the kinds on
+  abbrev pub from_rows : List ℕ → List ℕ → List FileRule → Reading Contents
   from_rows ns fs rs gs = then (rows total (length ns) gs) (λ ws hs. ended total (contents ns fs rs ws) hs)
 
-  abbrev from_rules : List ℕ → List ℕ → Reading Contents
+  abbrev pub from_rules : List ℕ → List ℕ → Reading Contents
   from_rules ns fs es = then (rules total (length ns) (length fs) es) (λ rs gs. from_rows ns fs rs gs)
 
-  abbrev from_fit : List ℕ → List ℕ → List ℕ → Reading Contents
+  abbrev pub from_fit : List ℕ → List ℕ → List ℕ → Reading Contents
   from_fit ks ns fs ds = then (given (same_kinds ks fs) Kinds fs ds) (λ _ es. from_rules ns fs es)
+
+  abbrev pub from_kinds : List ℕ → List ℕ → Reading Contents
+  from_kinds ks ns cs = then (kinds total cs) (λ fs ds. from_fit ks ns fs ds)
+
+  -- each from those before it
+  module _ (ks bs ns cs : List ℕ) (e : Ok (record { value = ns; rest = cs }) ≡ names total bs) where
+    pub to_kinds : whole total ks bs ≡ from_kinds ks ns cs
+    to_kinds = ap (λ o. then o (λ ns cs. from_kinds ks ns cs)) (sym e)
+
+    module _ (fs ds : List ℕ) (d : Ok (record { value = fs; rest = ds }) ≡ kinds total cs) where
+      pub to_fit : whole total ks bs ≡ from_fit ks ns fs ds
+      to_fit = to_kinds ∙ ap (λ o. then o (λ fs ds. from_fit ks ns fs ds)) (sym d)
+
+      pub not_fit : same_kinds ks fs ≡ false → whole total ks bs ≡ Err Kinds
+      not_fit f = to_fit ∙ ap (λ b. then (given b Kinds fs ds) (λ _ es. from_rules ns fs es)) f
+
+      module _ (f : same_kinds ks fs ≡ true) where
+        pub to_rules : whole total ks bs ≡ from_rules ns fs ds
+        to_rules = to_fit ∙ ap (λ b. then (given b Kinds fs ds) (λ _ es. from_rules ns fs es)) f
+
+        module _ (rs : List FileRule) (gs : List ℕ) (h : rules total (length ns) (length fs) ds ≡ Ok (record { value = rs; rest = gs })) where
+          pub to_rows : whole total ks bs ≡ from_rows ns fs rs gs
+          to_rows = to_rules ∙ ap (λ o. then o (λ rs gs. from_rows ns fs rs gs)) h
+
+          module _ (ws : List FileRow) (hs : List ℕ) (j : rows total (length ns) gs ≡ Ok (record { value = ws; rest = hs })) where
+            pub to_end : whole total ks bs ≡ ended total (contents ns fs rs ws) hs
+            to_end = to_rows ∙ ap (λ o. then o (λ ws hs. ended total (contents ns fs rs ws) hs)) j
 
   module _ (ks bs : List ℕ) where
     pub record AtRules (ns fs ds : List ℕ) : Type 0 where

@@ -2,19 +2,32 @@
 --
 -- after o at xs    a buffer after a write at a place with room: its length, and a write behind
 -- wrote_then       a write, and one behind it
--- puts_as          the same bytes, written otherwise
+-- wrote_as         the same bytes, written otherwise
+-- wrote_none       no bytes
+-- wrote_more       the items of a list, and one more
+-- wrote_item       the items up to a place, seen through g, and the one there
+-- puts_as          the same bytes, written otherwise by a writer
 -- puts_then        a write by a writer, and one behind it
 -- puts_item        the items up to a place, and the one there
 -- no_room, room    bytes that were counted by a write into nothing, which fit a buffer or not
 --
 -- Assumes nothing.
-use Rattle.std.proofs.Common.{◌≡◌, ℕ, ◌+◌, ◌^◌, ◌<◌, ◌≤◌, cond, List, [], ◌∷◌, ◌++◌, length, get_or, take, drop, Some, None, Option, sym, ap, ◌∙◌, subst, ap₂, append_assoc, arith, length-append, length-drop}
+use Rattle.std.proofs.Common.{◌≡◌, ℕ, ◌+◌, ◌^◌, ◌<◌, ◌≤◌, cond, List, [], ◌∷◌, ◌++◌, map, length, get_or, take, drop, Some, None, Option, sym, ap, ◌∙◌, subst, ap₂, append_assoc, append-nil, add-zero, arith, length-append, length-drop}
 use borrow.Author.Tests.{le-true, lt-false}
-use Rattle.std.proofs.lemmas.List.{length-take-le, take_at, take_more, drop_at, drop-drop}
+use Rattle.std.proofs.lemmas.List.{length-take-le, take-append-drop, take_at, take_more, drop_at, drop-drop, map_more}
 use Rattle.layout.specs.Contents.{joined}
 use Rattle.format.specs.Lent.{Wrote, Puts, filled_len, filled}
 use Rattle.format.specs.declared.encode.Writer.{Writer}
 use Rattle.layout.proofs.Ordered.{joined_push}
+
+pub wrote_as : {o p bs cs : List ℕ} {at next : ℕ} → bs ≡ cs → Wrote o at bs next p → Wrote o at cs next p
+wrote_as {o} {p} {bs} {cs} {at} {next} e w = let P : List ℕ → Type 0 = λ l. Wrote o at l next p in subst P e w
+
+pub wrote_none : (o : List ℕ) (at : ℕ) → at < 2 ^ 64 → Wrote o at [] at o
+wrote_none o at h = record {
+  place = omega arith;
+  bytes = λ _. sym (ap₂ (λ x n. x ++ drop n o) (append-nil (take at o)) (add-zero at) ∙ take-append-drop at o);
+}
 
 after : List ℕ → ℕ → List ℕ → List ℕ
 after o at xs = take at o ++ xs ++ drop (at + length xs) o
@@ -50,6 +63,14 @@ wrote_then {o} {p} {q} {xs} {ys} {at} {next} {last} h w v =
           let more : next + length ys ≤ length p = omega (arith, ap length is, length_after o at xs room) in
           v.bytes more ∙ ap₂ (λ (r : List ℕ) n. after r n ys) is here ∙ after_after o at xs room ys;
     }
+
+pub wrote_more : {X : Type 0} (f : X → List ℕ) {o p q : List ℕ} {at next last : ℕ} (xs : List X) (x : X) →
+    length o < 2 ^ 64 → Wrote o at (joined f xs) next p → Wrote p next (f x) last q → Wrote o at (joined f (xs ++ x ∷ [])) last q
+wrote_more f xs x h w v = wrote_as (sym (joined_push f xs x)) (wrote_then h w v)
+
+pub wrote_item : {X Y : Type 0} (f : Y → List ℕ) (g : X → Y) (xs : List X) (i : ℕ) (d : X) {o p q : List ℕ} {at next last : ℕ} →
+    i < length xs → length o < 2 ^ 64 → Wrote o at (joined f (map g (take i xs))) next p → Wrote p next (f (g (get_or xs i d))) last q → Wrote o at (joined f (map g (take (i + 1) xs))) last q
+wrote_item f g xs i d l h w v = wrote_as (ap (joined f) (sym (map_more g xs i d l))) (wrote_more f (map g (take i xs)) (g (get_or xs i d)) h w v)
 
 pub puts_as : {w v : Writer} {bs cs : List ℕ} → bs ≡ cs → Puts w bs v → Puts w cs v
 puts_as {w} {v} e p = subst (λ (l : List ℕ). Puts w l v) e p

@@ -1,2 +1,3 @@
 mod SevenNorms
 pub mod Examples
+pub mod Spelling
