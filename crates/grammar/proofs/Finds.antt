@@ -1,18 +1,51 @@
 -- Records of a list grammar: the search for the first one, and the word of one. Assumes nothing.
-use Rattle.std.proofs.Common.{◌≡◌, ℕ, min, Bool, true, false, cond, ◌&&◌, eqb, ltb, leb, List, [], ◌∷◌, ◌++◌, Some, None, Option, sym, refl, ap, ◌∙◌, ltb-true, lt-ltb, eq-eqb, eqb-true, le-leb, leb-true}
+use Rattle.std.proofs.Common.{◌≡◌, ℕ, ◌+◌, ◌<◌, ◌≤◌, min, Bool, true, false, cond, ◌&&◌, eqb, ltb, leb, List, [], ◌∷◌, ◌++◌, length, get_or, take, drop, Some, None, Option, sym, refl, ap, ◌∙◌, arith, length-take, get_or-take, ltb-true, lt-ltb, eq-eqb, eqb-true, le-leb, leb-true}
+use lib.ListN.{length-map}
 use borrow.Author.Tests.{both_ways}
 use Rattle.std.proofs.lemmas.Bool.{and_parts, and_from}
 use Rattle.std.specs.Option.{option_map}
+use Rattle.std.proofs.lemmas.List.{get_or_past, get_or-map, drop_all}
 use Rattle.std.specs.List.{find}
+use Rattle.grammar.specs.declared.records.RuleWord.{RuleWord}
 use Rattle.grammar.specs.declared.records.RuleRecord.{RuleRecord}
 use Rattle.grammar.specs.Meaning.{Weighted}
-use Rattle.grammar.specs.Listed.{first_hit, hit, letter, of_record, listed, Misses, FirstFor, Gives, ListLaw}
+use Rattle.grammar.specs.Listed.{written, first_hit, hit, letter, of_record, listed, Misses, FirstFor, Gives, ListLaw}
+use Rattle.grammar.proofs.Lists.{opened}
 use Rattle.grammar.proofs.Options.{none_some, some_same}
+
+module _ {T : Type 0} (A a : ℕ) (rs : List (RuleRecord T)) (i : ℕ) (r : RuleRecord T) (h : i < length rs) (read : r ≡ get_or rs i r) where
+  pub first_here : hit A a r ≡ true → first_hit A a (drop i rs) ≡ Some r
+  first_here e = ap (first_hit A a) (opened rs i r r h read) ∙ ap (λ b. cond b (Some r) (first_hit A a (drop (i + 1) rs))) e
+
+  pub first_later : hit A a r ≡ false → first_hit A a (drop i rs) ≡ first_hit A a (drop (i + 1) rs)
+  first_later e = ap (first_hit A a) (opened rs i r r h read) ∙ ap (λ b. cond b (Some r) (first_hit A a (drop (i + 1) rs))) e
+
+pub first_none : {T : Type 0} (A a : ℕ) (rs : List (RuleRecord T)) (i : ℕ) → length rs ≤ i → first_hit A a (drop i rs) ≡ None
+first_none A a rs i h = ap (first_hit A a) (drop_all i rs h)
 
 -- the search goes on behind a record that is missed
 pub first_hit_found : {T : Type 0} (A a : ℕ) (rs : List (RuleRecord T)) → first_hit A a rs ≡ find (hit A a) rs
 first_hit_found A a [] = refl
 first_hit_found A a (r ∷ rs) = ap (cond (hit A a r) (Some r)) (first_hit_found A a rs)
+
+-- how many symbols of a record count
+pub written_length : (w : RuleWord) → length w.symbols ≡ 5 → length (written w) ≡ min 5 w.length
+written_length w h = simp (length-map, length-take) (omega arith)
+
+pub written_few : (w : RuleWord) → length (written w) ≤ min 5 w.length
+written_few w = simp (length-map, length-take) (omega arith)
+
+-- a symbol among those that count, and beyond them
+pub written_within : (w : RuleWord) (i : ℕ) → i < length (written w) → get_or w.symbols i 0 < 256 → get_or w.symbols i 0 ≡ get_or (written w) i 255
+written_within w i h k =
+    let few = written_few w in
+    let n : ℕ = min 5 w.length in
+    let front : get_or (take n w.symbols) i 0 ≡ get_or w.symbols i 0 = get_or-take n w.symbols i 0 (omega arith) in
+    let read : get_or (written w) i 255 ≡ min 255 (get_or (take n w.symbols) i 0) = get_or-map (λ B. min 255 B) (take n w.symbols) i 0 255 (simp length-map at h) in
+    omega arith
+
+pub written_beyond : (w : RuleWord) (i : ℕ) → length (written w) ≤ i → 255 ≡ get_or (written w) i 255
+written_beyond w i h = sym (get_or_past (written w) i 255 h)
 
 -- The rules of a list grammar are just those that its records give.
 module _ {T : Type 0} (A a : ℕ) where

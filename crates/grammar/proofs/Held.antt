@@ -1,8 +1,33 @@
 -- The word that a stack holds, as symbols come and go. Assumes nothing.
-use Rattle.std.proofs.Common.{◌≡◌, ℕ, suc, ◌+◌, ◌-◌, ◌<◌, ◌≤◌, cond, ltb, List, ◌∷◌, ◌++◌, length, get_or, drop, sym, ap, ◌∙◌, inl, inr, arith, length-append, length-drop, drop-cons, le-ltb, lt-ltb}
-use Rattle.std.proofs.lemmas.List.{drop_all}
+use Rattle.std.proofs.Common.{◌≡◌, ℕ, suc, ◌+◌, ◌-◌, ◌<◌, ◌≤◌, true, false, cond, ltb, List, [], ◌∷◌, ◌++◌, length, get_or, drop, set, replicate, sym, ap, ◌∙◌, inl, inr, add-one, arith, length-append, length-drop, drop-cons, le-ltb, lt-ltb}
+use lib.ListN.{length-replicate}
+use Rattle.std.proofs.lemmas.List.{drop-set, drop_all}
 use Rattle.std.proofs.lemmas.Bool.{cases_lt}
 use Rattle.grammar.specs.WordStacks.{put_before}
+
+module _ (N : ℕ) (cells : List ℕ) (top : ℕ) (room : length cells ≡ N) (within : top ≤ N) where
+  pub held_length : N - top ≡ length (drop top cells)
+  held_length = simp length-drop (omega arith)
+
+  -- written just below the top
+  pub held_push : (A : ℕ) → 0 < top → drop (top - 1) (set cells (top - 1) A) ≡ cond (ltb (length (drop top cells)) N) (A ∷ drop top cells) (drop top cells)
+  held_push A h =
+      let next : top - 1 + 1 ≡ top = omega arith in
+      let few : length (drop top cells) < N = simp length-drop (omega arith) in
+      drop-set cells (top - 1) A (omega arith) ∙ ap {B = List ℕ} (λ k. A ∷ drop k cells) next ∙ rw (lt-ltb (length (drop top cells)) N few)
+
+  pub held_pop : top < N → drop top cells ≡ get_or cells top 0 ∷ drop (top + 1) cells
+  held_pop h = rw add-one (drop-cons cells top 0 (omega arith))
+
+  pub pop_none : N ≤ top → false ≡ ltb 0 (length (drop top cells))
+  pop_none h = sym (le-ltb 0 (length (drop top cells)) (simp length-drop (omega arith)))
+
+  pub pop_some : top < N → true ≡ ltb 0 (length (drop top cells))
+  pop_some h = sym (lt-ltb 0 (length (drop top cells)) (simp length-drop (omega arith)))
+
+-- a stack of fresh cells holds nothing
+pub held_none : (N : ℕ) → drop {A = ℕ} N (replicate N 0) ≡ []
+held_none N = drop_all {X = ℕ} N (replicate N 0) (omega (arith, length-replicate {A = ℕ} N 0))
 
 -- a stack holds no more than it has room for
 pub held_few : (N : ℕ) (cells : List ℕ) (top : ℕ) → length cells ≡ N → length (drop top cells) ≤ N

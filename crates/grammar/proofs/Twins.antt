@@ -1,9 +1,27 @@
 -- Where a twin's rules come from, and what its words take. Assumes nothing.
-use Rattle.std.proofs.Common.{◌≡◌, ℕ, ◌+◌, ◌-◌, ◌<◌, ◌≤◌, min, Bool, true, false, ltb, [], ◌∷◌, ◌++◌, is_some, Some, None, Option, sym, refl, ap, ◌∙◌, ap₂, arith, ltb-false, ltb-true, le-ltb, lt-ltb}
+use Rattle.std.proofs.Common.{◌≡◌, ℕ, ◌+◌, ◌-◌, ◌<◌, ◌≤◌, min, Bool, true, false, cond, ltb, [], ◌∷◌, ◌++◌, map, length, get_or, is_some, Some, None, Option, sym, refl, ap, ◌∙◌, ap₂, arith, ltb-false, ltb-true, le-ltb, lt-ltb}
+use lib.ListN.{length-map, get_or-map}
 use Rattle.tally.specs.Group.{Group}
 use Rattle.grammar.specs.Meaning.{Word, Input, Weighted, Meaning, word_of, Each, Below, WellFormed}
 use Rattle.grammar.specs.Takes.{takes, behind, follow, shift}
 use Rattle.grammar.specs.Twinned.{kept, raised, renamed, twinned, Closed, TwinLaw}
+
+module _ {T : Type 0} (f : ℕ → ℕ) where
+  pub renamed_length : (o : Option (Weighted T)) → length (word_of (renamed (map f) o)) ≡ length (word_of o)
+  renamed_length (Some m) = length-map m.word f
+  renamed_length None = refl
+
+  -- beyond a word's end stands 255, renamed or not
+  pub renamed_at : f 255 ≡ 255 → (o : Option (Weighted T)) (i : ℕ) → get_or (word_of (renamed (map f) o)) i 255 ≡ f (get_or (word_of o) i 255)
+  renamed_at e (Some m) i = ap (get_or (map f m.word) i) (sym e) ∙ get_or-map f m.word i 255
+  renamed_at e None i = sym e
+
+pub kept_end : (n : ℕ) → ◌≡◌ {A = ℕ} (cond (ltb 255 n) 255 255) 255
+kept_end n = at (ltb 255 n)
+  where
+    at : (b : Bool) → ◌≡◌ {A = ℕ} (cond b 255 255) 255
+    at true = refl
+    at false = refl
 
 module _ {T : Type 0} (M N : Meaning T) (A a : ℕ) where
   pub first_rule : A < M.count → (twinned M N).rule A a ≡ renamed (kept M.count) (M.rule A a)
@@ -14,6 +32,25 @@ module _ {T : Type 0} (M N : Meaning T) (A a : ℕ) where
 
   pub no_rule : M.count ≤ A → min 255 (M.count + N.count) ≤ A → (twinned M N).rule A a ≡ None
   no_rule h k = rw (le-ltb A M.count h, le-ltb A (min 255 (M.count + N.count)) k)
+
+  -- what a part answers of a rule's length and symbols, with n for the first's count, is what the twin answers
+  module _ (n : ℕ) (mid : n ≡ M.count) where
+    pub first_length : A < n → (r : ℕ) → r ≡ length (word_of (M.rule A a)) → r ≡ length (word_of ((twinned M N).rule A a))
+    first_length h r e = e ∙ sym (ap (λ o. length (word_of o)) (first_rule (omega arith)) ∙ renamed_length (λ B. cond (ltb B M.count) B 255) (M.rule A a))
+
+    pub first_at : A < n → (i B r : ℕ) → B ≡ get_or (word_of (M.rule A a)) i 255 → r ≡ cond (ltb B n) B 255 → r ≡ get_or (word_of ((twinned M N).rule A a)) i 255
+    first_at h i B r e d =
+        let f : ℕ → ℕ = λ B. cond (ltb B M.count) B 255 in
+        d ∙ rw (mid, e) (sym (ap (λ o. get_or (word_of o) i 255) (first_rule (omega arith)) ∙ renamed_at f (kept_end M.count) (M.rule A a) i))
+
+    module _ (behind : n ≤ A) (within : A < min 255 (M.count + N.count)) where
+      pub second_length : (r : ℕ) → r ≡ length (word_of (N.rule (A - n) a)) → r ≡ length (word_of ((twinned M N).rule A a))
+      second_length r e = e ∙ rw mid (sym (ap (λ o. length (word_of o)) (second_rule (omega arith) within) ∙ renamed_length (λ B. min 255 (B + M.count)) (N.rule (A - M.count) a)))
+
+      pub second_at : (i B r : ℕ) → B ≡ get_or (word_of (N.rule (A - n) a)) i 255 → r ≡ min 255 (B + n) → r ≡ get_or (word_of ((twinned M N).rule A a)) i 255
+      second_at i B r e d =
+          let f : ℕ → ℕ = λ B. min 255 (B + M.count) in
+          d ∙ rw (e, mid) (sym (ap (λ o. get_or (word_of o) i 255) (second_rule (omega arith) within) ∙ renamed_at f (omega arith) (N.rule (A - M.count) a) i))
 
 -- words of the first's symbols
 pub kept_same : (n : ℕ) (w : Word) → Below n w → kept n w ≡ w

@@ -51,7 +51,14 @@ impl<G: Grammar, H: Grammar<T = G::T>> Twin<G, H> {
     fn part(&self, symbol: u8) -> Option<Part>
         ensures { IsPart (G.Grammar.meaning self.now.first).count (H.Grammar.meaning self.now.second).count symbol result }
     {
-        let mid = self.first.count();
+        self.part_at(symbol, self.first.count())
+    }
+
+    // The same, handed the first's count, so that it is not asked for twice.
+    fn part_at(&self, symbol: u8, mid: u8) -> Option<Part>
+        requires { mid ≡ (G.Grammar.meaning self.now.first).count }
+        ensures { IsPart (G.Grammar.meaning self.now.first).count (H.Grammar.meaning self.now.second).count symbol result }
+    {
         if symbol < mid {
             Some(Part::First(symbol))
         } else if symbol < raise(self.second.count(), mid) {
@@ -92,7 +99,7 @@ impl<G: Grammar, H: Grammar<T = G::T>> Grammar for Twin<G, H> {
 
     fn rule_symbol(&self, symbol: u8, letter: u8, at: u8) -> u8 {
         let mid = self.first.count();
-        match self.part(symbol) {
+        match self.part_at(symbol, mid) {
             Some(Part::First(own)) => keep(self.first.rule_symbol(own, letter, at), mid),
             Some(Part::Second(own)) => raise(self.second.rule_symbol(own, letter, at), mid),
             None => 255,

@@ -194,6 +194,9 @@ abbrev unblamed : (total : ℕ) (ks all p rest : List ℕ) (F : Field) (f : Faul
 unblamed total ks all p rest F f e u h = tt
 
 module _ (total : ℕ) (bs : List ℕ) where
+  pub word_sound : (n l : ℕ) (r : Read Word) → reading.word total n l bs ≡ Ok r → ((bs ≡ r.value ++ r.rest) × Below n r.value) × (length r.value ≡ l)
+  word_sound n l = came_read (word_came total [] bs (λ _. Unit {0}) (λ _ _. Unit {0}) (unblamed total [] bs) [] bs n l refl (λ _ _ _. tt))
+
   pub names_sound : (r : Read (List ℕ)) → reading.names total bs ≡ Ok r → LegalNames r.value × (bs ≡ length r.value ∷ r.value ++ r.rest)
   names_sound = came_read (names_came total [] bs (λ _. Unit {0}) (λ _ _. Unit {0}) (unblamed total [] bs) [] bs refl tt (λ _ _ _. tt))
 
@@ -206,10 +209,21 @@ module _ (total : ℕ) (bs : List ℕ) where
   row_anywhere : (p : List ℕ) (n : ℕ) (before : List FileRow) → RowReached (λ _ _. Unit {0}) p n before
   row_anywhere p n before = record { at_symbol = tt; at_length = λ _ _ _. tt; at_word = λ _ _ _ _ _ _ _ _ _. tt }
 
+  pub row_sound : (n : ℕ) (before : List FileRow) (r : Read FileRow) → reading.row total n (reverse before) bs ≡ Ok r →
+      (bs ≡ row_bytes r.value ++ r.rest) × LegalRow n r.value × Last (λ s. RowAfter s r.value) before
+  row_sound n before = came_read (row_came total [] bs (λ _. Unit {0}) (λ _ _. Unit {0}) (unblamed total [] bs) [] bs n before refl (row_anywhere [] n before))
+
   pub rows_sound : (n : ℕ) (r : Read (List FileRow)) → reading.rows total n bs ≡ Ok r → LegalRows n r.value × (bs ≡ rows_bytes r.value ++ r.rest)
   rows_sound n = came_read (rows_came total [] bs (λ _. Unit {0}) (λ _ _. Unit {0}) (unblamed total [] bs) [] bs n refl tt (λ c before _. row_anywhere (c ∷ joined row_bytes before) n before))
 
   module _ (bytes : Bytes bs) where
+    pub numbers_sound : (k : ℕ) (r : Read (List ℕ)) → reading.many total (reading.number total) k [] bs ≡ Ok r → ((bs ≡ joined four r.value ++ r.rest) × All (λ x. x < 2 ^ 32) r.value) × (length r.value ≡ k)
+    numbers_sound k = came_read (numbers_came total [] bs (λ _. Unit {0}) (λ _ _. Unit {0}) (unblamed total [] bs) bytes [] bs k refl (λ _ _ _. tt))
+
+    pub rule_sound : (n k : ℕ) (before : List FileRule) (r : Read FileRule) → reading.rule total n k (reverse before) bs ≡ Ok r →
+        (bs ≡ rule_bytes r.value ++ r.rest) × LegalRule n k r.value × Last (λ s. After s r.value) before
+    rule_sound n k before = came_read (rule_came total [] bs (λ _. Unit {0}) (λ _ _. Unit {0}) (unblamed total [] bs) bytes [] bs n k before refl (rule_anywhere [] n k before))
+
     pub rules_sound : (n k : ℕ) (r : Read (List FileRule)) → reading.rules total n k bs ≡ Ok r → LegalRules n k r.value × (bs ≡ (two (length r.value) ++ joined rule_bytes r.value) ++ r.rest)
     rules_sound n k =
         came_read (rules_came total [] bs (λ _. Unit {0}) (λ _ _. Unit {0}) (unblamed total [] bs) bytes [] bs n k refl tt (λ c before _. rule_anywhere (two c ++ joined rule_bytes before) n k before))

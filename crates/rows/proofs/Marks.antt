@@ -3,11 +3,12 @@
 -- The idea: the normal form of a symbol is a word of symbols that have no row, and not the empty one; so some symbol has no row.
 --
 -- Assumes nothing.
-use Rattle.std.proofs.Common.{◌≡◌, ℕ, zero, suc, ◌<◌, ◌≤◌, [], ◌∷◌, Some, None, Option, sym, ap, ◌∙◌, arith}
+use Rattle.std.proofs.Common.{◌≡◌, ℕ, zero, suc, ◌+◌, ◌<◌, ◌≤◌, [], ◌∷◌, Some, None, Option, sym, refl, ap, ◌∙◌, arith}
 use native.Mathlib.Decide.{ℕ_discrete}
 use Rattle.tally.specs.Group.{Group}
 use Rattle.grammar.specs.Meaning.{Word, Weighted, Each, Below}
-use Rattle.norm.proofs.Weights.{each_append}
+use Rattle.norm.specs.Norms.{norms}
+use Rattle.norm.proofs.Weights.{norms_append, each_append}
 use Rattle.rows.specs.Sheets.{Sheet, unweighed, Normal, normal_nil, normal_keep, normal_put, Ranked, tell, marked}
 use Rattle.rows.proofs.Normals.{Filled, normal_plain, normal_filled, row_shaped, rows_filled, ranked_total}
 
@@ -30,7 +31,12 @@ module _ {X : Type 0} where
       go (no h) ih = let k = ih (omega arith) in let d = tell_le (D n) in omega arith
 
 module _ {T : Type 0} (𝓣 : Group T) (D : Sheet T) where
-  -- a normal form keeps the symbols known
+  -- a normal form has the norm of its word, and known symbols
+  pub norms_kept : (norm : ℕ → ℕ) → ((A : ℕ) (m : Weighted T) → D A ≡ Some m → norms norm m.word ≡ norm A) → {x z : Word} {s : T} → Normal 𝓣 D x z s → norms norm z ≡ norms norm x
+  norms_kept norm h normal_nil = refl
+  norms_kept norm h (normal_keep {A = A} e f) = ap (λ k. norm A + k) (norms_kept norm h f)
+  norms_kept norm h (normal_put {A = A} {r = r} {m = m} e f) = norms_kept norm h f ∙ norms_append norm m.word r ∙ ap (λ k. k + norms norm r) (h A m e)
+
   pub below_kept : (n : ℕ) → ((A : ℕ) (m : Weighted T) → D A ≡ Some m → Below n m.word) → {x z : Word} {s : T} → Normal 𝓣 D x z s → Below n x → Below n z
   below_kept n h normal_nil k = k
   below_kept n h (normal_keep e f) k = (k.0, below_kept n h f k.1)
