@@ -56,8 +56,7 @@ impl<G: Grammar, H: Grammar<T = G::T>> Twin<G, H> {
 
     // The same, handed the first's count, so that it is not asked for twice.
     fn part_at(&self, symbol: u8, mid: u8) -> Option<Part>
-        requires { mid ≡ (G.Grammar.meaning self.now.first).count }
-        ensures { IsPart (G.Grammar.meaning self.now.first).count (H.Grammar.meaning self.now.second).count symbol result }
+        ensures { IsPart mid (H.Grammar.meaning self.now.second).count symbol result }
     {
         if symbol < mid {
             Some(Part::First(symbol))
