@@ -15,8 +15,8 @@ use Rattle.layout.specs.Contents.{FileRule, FileRow, Contents, All, LegalRule, L
 use Rattle.layout.specs.Reading.{value_of}
 use Rattle.layout.proofs.Law.{reads}
 use Rattle.format.specs.Views.{row_of}
-use Rattle.format.specs.Lent.{rule_of, contents_of, counted, low_rule, low_row, low_encode, Wrote, Puts, Canonical}
-use Rattle.format.specs.declared.contents.FileContents.{FileContents}
+use Rattle.format.specs.Lent.{contents_of, counted, low_rule, low_row, low_encode, Wrote, Puts, Canonical}
+use Rattle.format.specs.declared.contents.EntryContents.{EntryContents}
 use Rattle.format.specs.declared.encode.Writer.{Writer}
 use Rattle.format.proofs.Writes.{wrote_as, wrote_then, puts_as, puts_then}
 
@@ -57,32 +57,34 @@ joined_map : {X Y : Type 0} (f : Y → List ℕ) (g : X → Y) (xs : List X) →
 joined_map f g [] = refl
 joined_map f g (x ∷ xs) = ap (λ l. f (g x) ++ l) (joined_map f g xs)
 
-pub wrote_contents : (c : FileContents) {o a b d e f q : List ℕ} {i j k l m n : ℕ} → length o < 2 ^ 64 →
+pub wrote_contents : {R : Type 0} (rule : ℕ → R → FileRule) (c : EntryContents R) {o a b d e f q : List ℕ} {i j k l m n : ℕ} → length o < 2 ^ 64 →
     Wrote o 0 (counted c.names.now) i a → Wrote a i (counted c.kinds.now) j b → Wrote b j (two (length c.rules.now % 65536)) k d →
-    Wrote d k (joined low_rule (map rule_of c.rules.now)) l e →
-    Wrote e l (length c.rows.now % 256 ∷ []) m f → Wrote f m (joined low_row (map row_of c.rows.now)) n q → Wrote o 0 (low_encode (contents_of c)) n q
-wrote_contents c room names kinds count rules rows each =
-    let C = contents_of c in
+    Wrote d k (joined low_rule (map (rule (length c.kinds.now)) c.rules.now)) l e →
+    Wrote e l (length c.rows.now % 256 ∷ []) m f → Wrote f m (joined low_row (map row_of c.rows.now)) n q → Wrote o 0 (low_encode (contents_of rule c)) n q
+wrote_contents rule c room names kinds count rules rows each =
+    let C = contents_of rule c in
+    let here = rule (length C.kinds) in
     let heads = counted C.names ++ counted C.kinds in
     let front = λ (x : ℕ). heads ++ two (x % 65536) ++ joined low_rule C.rules in
     let written = wrote_then room (wrote_then room (wrote_then room (wrote_then room (wrote_then room names kinds) count) rules) rows) each in
     let x = length c.rules.now in
     let y = length c.rows.now in
-    let same = ap₂ (λ v w. front v ++ (w % 256 ∷ joined low_row C.rows)) (sym (length-map c.rules.now rule_of)) (sym (length-map c.rows.now row_of)) in
+    let same = ap₂ (λ v w. front v ++ (w % 256 ∷ joined low_row C.rows)) (sym (length-map c.rules.now here)) (sym (length-map c.rows.now row_of)) in
     wrote_as (append_assoc (front x) (y % 256 ∷ []) (joined low_row C.rows) ∙ same) written
 
-pub puts_contents : (c : FileContents) {w a b d e f v : Writer} → length w.out.now < 2 ^ 64 →
+pub puts_contents : {R : Type 0} (rule : ℕ → R → FileRule) (c : EntryContents R) {w a b d e f v : Writer} → length w.out.now < 2 ^ 64 →
     Puts w (counted c.names.now) a → Puts a (counted c.kinds.now) b → Puts b (two (length c.rules.now % 65536)) d →
-    Puts d (joined (λ r. low_rule (rule_of r)) c.rules.now) e →
-    Puts e (length c.rows.now % 256 ∷ []) f → Puts f (joined (λ r. low_row (row_of r)) c.rows.now) v → Puts w (low_encode (contents_of c)) v
-puts_contents c room names kinds count rules rows each =
-    let C = contents_of c in
+    Puts d (joined (λ r. low_rule (rule (length c.kinds.now) r)) c.rules.now) e →
+    Puts e (length c.rows.now % 256 ∷ []) f → Puts f (joined (λ r. low_row (row_of r)) c.rows.now) v → Puts w (low_encode (contents_of rule c)) v
+puts_contents rule c room names kinds count rules rows each =
+    let C = contents_of rule c in
+    let here = rule (length C.kinds) in
     let heads = counted C.names ++ counted C.kinds in
     let front = λ (x : ℕ). heads ++ two (x % 65536) ++ joined low_rule C.rules in
-    let rules' = puts_as (joined_map low_rule rule_of c.rules.now) rules in
+    let rules' = puts_as (joined_map low_rule here c.rules.now) rules in
     let each' = puts_as (joined_map low_row row_of c.rows.now) each in
     let written = puts_then room (puts_then room (puts_then room (puts_then room (puts_then room names kinds) count) rules') rows) each' in
     let x = length c.rules.now in
     let y = length c.rows.now in
-    let same = ap₂ (λ v w. front v ++ (w % 256 ∷ joined low_row C.rows)) (sym (length-map c.rules.now rule_of)) (sym (length-map c.rows.now row_of)) in
+    let same = ap₂ (λ v w. front v ++ (w % 256 ∷ joined low_row C.rows)) (sym (length-map c.rules.now here)) (sym (length-map c.rows.now row_of)) in
     puts_as (append_assoc (front x) (y % 256 ∷ []) (joined low_row C.rows) ∙ same) written

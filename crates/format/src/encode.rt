@@ -4,7 +4,7 @@ ghost use Rattle.layout.specs.Contents.{Legal, encode, joined, four};
 ghost use Rattle.format.specs.Views.{row_of};
 ghost use Rattle.format.specs.Lent.{Puts, Wrote, rule_of, contents_of, counted, low_rule, low_row, low_encode, filled_len, filled, Canonical};
 
-use crate::contents::{FileContents, RuleEntry};
+use crate::contents::{Entry, EntryContents, RuleEntry};
 use crate::row::Row;
 
 // A lent buffer, and the place in it where the next bytes go; behind its end bytes are only counted.
@@ -52,6 +52,15 @@ impl Writer<'_> {
             item.write_to(self);
         }
     }
+
+    // Rules of a file with so many kinds, one behind the other.
+    fn put_rules<R: Entry>(&mut self, kinds: usize, rules: &[R])
+        ensures { Puts self.old (joined (λ entry. low_rule (R.rule kinds entry)) rules.now) self.new }
+    {
+        for entry in rules {
+            entry.lend(kinds).write_to(self);
+        }
+    }
 }
 
 // Four bytes, high first.
@@ -85,23 +94,23 @@ impl Encode for Row<'_> {
 }
 
 // The four sections, each behind its count.
-impl Encode for FileContents<'_> {
-    ghost bytes = { λ contents. low_encode (contents_of contents) };
+impl<R: Entry> Encode for EntryContents<'_, R> {
+    ghost bytes = { λ contents. low_encode (contents_of R.Entry.rule contents) };
 
     fn write_to(&self, to: &mut Writer<'_>) {
         to.put_counted(self.names);
         to.put_counted(self.kinds);
         let count = (self.rules.len() % 65_536) as u16;
         to.put(&count.to_be_bytes());
-        to.put_all(self.rules);
+        to.put_rules(self.kinds.len(), self.rules);
         to.put(&[(self.rows.len() % 256) as u8]);
         to.put_all(self.rows);
     }
 }
 
 // Writes the contents from the start of the buffer on, and answers how many bytes they have.
-fn put_contents(out: &mut [u8], contents: &FileContents<'_>) -> usize
-    ensures { Wrote out.old 0 (low_encode (contents_of contents.now)) result out.new }
+fn put_contents<R: Entry>(out: &mut [u8], contents: &EntryContents<'_, R>) -> usize
+    ensures { Wrote out.old 0 (low_encode (contents_of R.rule contents.now)) result out.new }
 {
     let mut to = Writer { out, at: 0 };
     contents.write_to(&mut to);
@@ -111,12 +120,12 @@ fn put_contents(out: &mut [u8], contents: &FileContents<'_>) -> usize
 // Writes the bytes of the contents at the start of the buffer and answers how many they are.
 // Where they do not fit it answers `None`, and the buffer is as it was. Of counts and lengths the low
 // bytes are written; of legal contents that is their encoding, which the check reads back.
-pub fn encode_into(contents: &FileContents<'_>, out: &mut [u8]) -> Option<usize>
-    ensures value { Legal (contents_of contents.now) → result ≡ filled_len (encode (contents_of contents.now)) out.old }
-    ensures out { Legal (contents_of contents.now) → out.new ≡ filled (encode (contents_of contents.now)) out.old }
-    ensures low_value { result ≡ filled_len (low_encode (contents_of contents.now)) out.old }
-    ensures low_out { out.new ≡ filled (low_encode (contents_of contents.now)) out.old }
-    ensures law { Legal (contents_of contents.now) → Canonical (contents_of contents.now) }
+pub fn encode_into<R: Entry>(contents: &EntryContents<'_, R>, out: &mut [u8]) -> Option<usize>
+    ensures value { Legal (contents_of R.rule contents.now) → result ≡ filled_len (encode (contents_of R.rule contents.now)) out.old }
+    ensures out { Legal (contents_of R.rule contents.now) → out.new ≡ filled (encode (contents_of R.rule contents.now)) out.old }
+    ensures low_value { result ≡ filled_len (low_encode (contents_of R.rule contents.now)) out.old }
+    ensures low_out { out.new ≡ filled (low_encode (contents_of R.rule contents.now)) out.old }
+    ensures law { Legal (contents_of R.rule contents.now) → Canonical (contents_of R.rule contents.now) }
 {
     // Written nowhere, the bytes are only counted.
     let needed = put_contents(&mut [], contents);

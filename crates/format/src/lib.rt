@@ -14,7 +14,7 @@ mod rules;
 mod tests;
 
 pub use check::check_file;
-pub use contents::{FileContents, RuleEntry};
+pub use contents::{Entry, EntryContents, FileContents, OwnedContents, OwnedEntry, RuleEntry};
 pub use encode::encode_into;
 pub use file_tally::{FileTally, OneNumber};
 pub use row::{Checked, Row, Section};

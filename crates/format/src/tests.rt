@@ -48,6 +48,48 @@ fn small_file_there_and_back(rt: HostRuntime) {
     }
 }
 
+// A rule of one number that owns its word, of up to two symbols.
+fn owned(symbol: u8, letter: u8, number: u32, length: u8, last: u8) -> OwnedEntry {
+    OwnedEntry {
+        symbol,
+        letter,
+        numbers: [number, 99],
+        length,
+        symbols: [0, last, 98, 97],
+    }
+}
+
+// The same 43 bytes from rules that own theirs; what is behind the kinds and the lengths is not written.
+#[test]
+fn owned_rules_have_the_same_bytes(rt: HostRuntime) {
+    let rules = [
+        owned(0, b'L', 270, 0, 0),
+        owned(0, b'S', 0, 2, 0),
+        owned(1, b'L', 270, 0, 0),
+        owned(1, b'S', 0, 2, 1),
+    ];
+    let rows = [Row {
+        symbol: 1,
+        word: &[0],
+    }];
+    let contents = OwnedContents {
+        names: b"bc",
+        kinds: &[1],
+        rules: &rules,
+        rows: &rows,
+    };
+    let mut out = [9; 43];
+    assert_eq!(rt; encode_into(&contents, &mut out), Some(43));
+    assert!(rt;
+        out.starts_with(
+            b"\x02bc\x01\x01\x00\x04\x00L\x00\x00\x01\x0e\x00\x00S\x00\x00\x00\x00\x02\x00\x00"
+        )
+    );
+    assert!(rt;
+        out.ends_with(b"\x01L\x00\x00\x01\x0e\x00\x01S\x00\x00\x00\x00\x02\x00\x01\x01\x01\x01\x00")
+    );
+}
+
 // A buffer of one byte less stays as it was; of one more, its last byte does.
 #[test]
 fn what_has_no_room_stays(rt: HostRuntime) {

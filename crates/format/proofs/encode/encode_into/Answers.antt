@@ -5,8 +5,8 @@ use Rattle.format.proofs.Writes.{no_room, room}
 use Rattle.format.proofs.encode.encode_into.Goals as goal
 
 pub returns-then-needed-out : goal.returns-then-needed-out
-returns-then-needed-out c =
-    let C = contents_of c.args.contents.now in
+returns-then-needed-out g c =
+    let C = contents_of g.R.Entry.rule c.args.contents.now in
     let o = c.args.out.now in
     let none = no_room (low_encode C) o c.put_contents-needed.ensures c.if-needed-out.true in
     record {
@@ -18,8 +18,8 @@ returns-then-needed-out c =
     }
 
 pub returns : goal.returns
-returns c =
-    let C = contents_of c.args.contents.now in
+returns g c =
+    let C = contents_of g.R.Entry.rule c.args.contents.now in
     let o = c.args.out.now in
     let all = room (low_encode C) o c.put_contents-needed.ensures (omega arith) c.if-needed-out.false c.put_contents.ensures in
     record {
