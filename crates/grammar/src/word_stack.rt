@@ -71,10 +71,18 @@ impl<const N: usize> WordStack<N> {
     pub fn push_word(&mut self, word: &[u8])
         ensures { held self.new ≡ put_before N word.now (held self.old) }
     {
-        // Symbol by symbol: words are short, and a copy of the slice costs a call.
-        for symbol in word.iter().rev() {
-            self.push(*symbol);
+        // The few symbols of a rule go one by one, as a copy costs a call.
+        if word.len() <= 4 {
+            for symbol in word.iter().rev() {
+                self.push(*symbol);
+            }
+            return;
         }
+        let end = self.top;
+        let top = end.saturating_sub(word.len());
+        let cells = &mut self.cells[..];
+        cells[top..end].copy_from_slice(&word[word.len() - (end - top)..]);
+        self.top = top;
     }
 
     // Puts the word of a rule in front; of one that does not fit, as many of its last symbols as there

@@ -1,7 +1,7 @@
 use Rattle.std.proofs.Common.{◌≡◌, ℕ, ◌-◌, ◌<◌, [], ◌∷◌, ◌++◌, length, get_or, ap, ◌∙◌, subst, arith}
 use Rattle.std.proofs.lemmas.List.{length-reverse, get_or-reverse, length_push}
 use Rattle.std.proofs.lemmas.Iterator.Adapters.{YieldsList-from_rev_slice}
-use Rattle.std.proofs.lemmas.Iterator.Consumers.{YieldsList-turn, YieldsList-end}
+use Rattle.std.proofs.lemmas.Iterator.Consumers.{YieldsList-turn}
 use Rattle.grammar.specs.WordStacks.{held}
 use Rattle.grammar.proofs.Held.{Put, held_few, put_none, put_more}
 use Rattle.grammar.proofs.word_stack.WordStack.push_word.Goals as goal
@@ -23,9 +23,3 @@ loop-symbol-preserved g c =
     let less : length w - n - 1 ≡ length w - length (c.loop-symbol.yielded ++ (c.in-Some.symbol ∷ [])) = omega (arith, length_push c.loop-symbol.yielded c.in-Some.symbol) in
     subst (λ k. Put N w (held s) k (held c.push.new.self)) less
     (put_more N w (held s) _ _ (length w - n) A A (omega arith) (omega arith) (held_few N s.cells s.top s.room) c.loop-symbol.invariant read c.push.ensures)
-
-pub returns : goal.returns
-returns g c =
-    let t = YieldsList-end (YieldsList-from_rev_slice c.args.word.now cc) c.loop-symbol.yielded _ c.loop-symbol.yielded_by _ _ c.in-None.is c.next.ensures.steps in
-    let all : length c.loop-symbol.yielded ≡ length c.args.word.now = t.1 ∙ length-reverse c.args.word.now in
-    c.loop-symbol.invariant.full (omega arith)
