@@ -6,7 +6,8 @@
 -- two_same, four_same                           a number's bytes as they are cut out of it
 -- joined_map       two ways to encode items seen through a function
 -- wrote_contents   the sections, one behind the other
--- puts_contents    the same by a writer
+-- puts_entries     the same by a writer
+-- puts_contents    the same of contents whose rules are lent
 --
 -- Assumes nothing.
 use Rattle.std.proofs.Common.{◌≡◌, ℕ, ◌/◌, ◌%◌, ◌^◌, ◌<◌, List, [], ◌∷◌, ◌++◌, map, length, sym, refl, ap, ◌∙◌, ap₂, append_assoc, arith}
@@ -15,8 +16,9 @@ use Rattle.layout.specs.Contents.{FileRule, FileRow, Contents, All, LegalRule, L
 use Rattle.layout.specs.Reading.{value_of}
 use Rattle.layout.proofs.Law.{reads}
 use Rattle.format.specs.Views.{row_of}
-use Rattle.format.specs.Lent.{contents_of, counted, low_rule, low_row, low_encode, Wrote, Puts, Canonical}
+use Rattle.format.specs.Lent.{rule_of, contents_of, contents_by, counted, low_rule, low_row, low_encode, Wrote, Puts, Canonical}
 use Rattle.format.specs.declared.contents.EntryContents.{EntryContents}
+use Rattle.format.specs.declared.contents.FileContents.{FileContents}
 use Rattle.format.specs.declared.encode.Writer.{Writer}
 use Rattle.format.proofs.Writes.{wrote_as, wrote_then, puts_as, puts_then}
 
@@ -60,9 +62,9 @@ joined_map f g (x ∷ xs) = ap (λ l. f (g x) ++ l) (joined_map f g xs)
 pub wrote_contents : {R : Type 0} (rule : ℕ → R → FileRule) (c : EntryContents R) {o a b d e f q : List ℕ} {i j k l m n : ℕ} → length o < 2 ^ 64 →
     Wrote o 0 (counted c.names.now) i a → Wrote a i (counted c.kinds.now) j b → Wrote b j (two (length c.rules.now % 65536)) k d →
     Wrote d k (joined low_rule (map (rule (length c.kinds.now)) c.rules.now)) l e →
-    Wrote e l (length c.rows.now % 256 ∷ []) m f → Wrote f m (joined low_row (map row_of c.rows.now)) n q → Wrote o 0 (low_encode (contents_of rule c)) n q
+    Wrote e l (length c.rows.now % 256 ∷ []) m f → Wrote f m (joined low_row (map row_of c.rows.now)) n q → Wrote o 0 (low_encode (contents_by rule c)) n q
 wrote_contents rule c room names kinds count rules rows each =
-    let C = contents_of rule c in
+    let C = contents_by rule c in
     let here = rule (length C.kinds) in
     let heads = counted C.names ++ counted C.kinds in
     let front = λ (x : ℕ). heads ++ two (x % 65536) ++ joined low_rule C.rules in
@@ -72,12 +74,12 @@ wrote_contents rule c room names kinds count rules rows each =
     let same = ap₂ (λ v w. front v ++ (w % 256 ∷ joined low_row C.rows)) (sym (length-map c.rules.now here)) (sym (length-map c.rows.now row_of)) in
     wrote_as (append_assoc (front x) (y % 256 ∷ []) (joined low_row C.rows) ∙ same) written
 
-pub puts_contents : {R : Type 0} (rule : ℕ → R → FileRule) (c : EntryContents R) {w a b d e f v : Writer} → length w.out.now < 2 ^ 64 →
+pub puts_entries : {R : Type 0} (rule : ℕ → R → FileRule) (c : EntryContents R) {w a b d e f v : Writer} → length w.out.now < 2 ^ 64 →
     Puts w (counted c.names.now) a → Puts a (counted c.kinds.now) b → Puts b (two (length c.rules.now % 65536)) d →
     Puts d (joined (λ r. low_rule (rule (length c.kinds.now) r)) c.rules.now) e →
-    Puts e (length c.rows.now % 256 ∷ []) f → Puts f (joined (λ r. low_row (row_of r)) c.rows.now) v → Puts w (low_encode (contents_of rule c)) v
-puts_contents rule c room names kinds count rules rows each =
-    let C = contents_of rule c in
+    Puts e (length c.rows.now % 256 ∷ []) f → Puts f (joined (λ r. low_row (row_of r)) c.rows.now) v → Puts w (low_encode (contents_by rule c)) v
+puts_entries rule c room names kinds count rules rows each =
+    let C = contents_by rule c in
     let here = rule (length C.kinds) in
     let heads = counted C.names ++ counted C.kinds in
     let front = λ (x : ℕ). heads ++ two (x % 65536) ++ joined low_rule C.rules in
@@ -88,3 +90,9 @@ puts_contents rule c room names kinds count rules rows each =
     let y = length c.rows.now in
     let same = ap₂ (λ v w. front v ++ (w % 256 ∷ joined low_row C.rows)) (sym (length-map c.rules.now here)) (sym (length-map c.rows.now row_of)) in
     puts_as (append_assoc (front x) (y % 256 ∷ []) (joined low_row C.rows) ∙ same) written
+
+pub puts_contents : (c : FileContents) {w a b d e f v : Writer} → length w.out.now < 2 ^ 64 →
+    Puts w (counted c.names.now) a → Puts a (counted c.kinds.now) b → Puts b (two (length c.rules.now % 65536)) d →
+    Puts d (joined (λ r. low_rule (rule_of r)) c.rules.now) e →
+    Puts e (length c.rows.now % 256 ∷ []) f → Puts f (joined (λ r. low_row (row_of r)) c.rows.now) v → Puts w (low_encode (contents_of c)) v
+puts_contents c = puts_entries (λ _ r. rule_of r) (record { names = c.names; kinds = c.kinds; rules = c.rules; rows = c.rows })

@@ -2,7 +2,8 @@
 --
 -- rule_of r                       the rule that is lent
 -- owned_rule k r                  the rule that r owns, in a file of k kinds: the first k of its numbers, and as much of its word as it says
--- contents_of rule c              the contents that are lent: an entry e is the rule that `rule` says in a file of so many kinds, which for a RuleEntry is rule_of e
+-- contents_of c                   the contents that are lent
+-- contents_by rule c              the same with rules of any entry: an entry e is the rule that `rule` says in a file of so many kinds, which for a RuleEntry is rule_of e
 -- counted bs                      a list behind the low byte of its length
 -- low_rule, low_row, low_encode   rule_bytes, row_bytes and encode with the low bytes of counts and lengths: the same where contents are legal
 -- Wrote o at bs next p            bs was written into o at a place, which made it p: the next place, at most 2^64 - 1, and what p is where there was room
@@ -19,6 +20,7 @@ use Rattle.format.specs.Views.{row_of}
 use Rattle.format.specs.declared.contents.RuleEntry.{RuleEntry}
 use Rattle.format.specs.declared.contents.OwnedEntry.{OwnedEntry}
 use Rattle.format.specs.declared.contents.EntryContents.{EntryContents}
+use Rattle.format.specs.declared.contents.FileContents.{FileContents}
 use Rattle.format.specs.declared.encode.Writer.{Writer}
 
 abbrev pub rule_of : RuleEntry → FileRule
@@ -27,8 +29,11 @@ rule_of r = record { symbol = r.symbol; letter = r.letter; numbers = r.numbers.n
 abbrev pub owned_rule : ℕ → OwnedEntry → FileRule
 owned_rule k r = record { symbol = r.symbol; letter = r.letter; numbers = take k r.numbers; word = take r.length r.symbols }
 
-abbrev pub contents_of : {R : Type 0} → (ℕ → R → FileRule) → EntryContents R → Contents
-contents_of rule c = record { names = c.names.now; kinds = c.kinds.now; rules = map (rule (length c.kinds.now)) c.rules.now; rows = map row_of c.rows.now }
+abbrev pub contents_of : FileContents → Contents
+contents_of c = record { names = c.names.now; kinds = c.kinds.now; rules = map rule_of c.rules.now; rows = map row_of c.rows.now }
+
+abbrev pub contents_by : {R : Type 0} → (ℕ → R → FileRule) → EntryContents R → Contents
+contents_by rule c = record { names = c.names.now; kinds = c.kinds.now; rules = map (rule (length c.kinds.now)) c.rules.now; rows = map row_of c.rows.now }
 
 abbrev pub counted : List ℕ → List ℕ
 counted bs = length bs % 256 ∷ bs

@@ -68,7 +68,17 @@ pub struct EntryContents<'a, R> {
 }
 
 // Contents whose rules are lent too.
-pub type FileContents<'a> = EntryContents<'a, RuleEntry<'a>>;
+pub type LentContents<'a> = EntryContents<'a, RuleEntry<'a>>;
+
+// The same as a struct of its own: `LentContents` names its lifetime twice, which the type of a
+// function pointer may not.
+#[derive(Clone, Copy)]
+pub struct FileContents<'a> {
+    pub names: &'a [u8],
+    pub kinds: &'a [u8],
+    pub rules: &'a [RuleEntry<'a>],
+    pub rows: &'a [Row<'a>],
+}
 
 // Contents whose rules own their numbers and words.
 pub type OwnedContents<'a> = EntryContents<'a, OwnedEntry>;

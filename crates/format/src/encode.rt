@@ -2,9 +2,9 @@
 ghost use Rattle.std.specs.Prelude.{◌≡◌, ℕ, List};
 ghost use Rattle.layout.specs.Contents.{Legal, encode, joined, four};
 ghost use Rattle.format.specs.Views.{row_of};
-ghost use Rattle.format.specs.Lent.{Puts, Wrote, rule_of, contents_of, counted, low_rule, low_row, low_encode, filled_len, filled, Canonical};
+ghost use Rattle.format.specs.Lent.{Puts, Wrote, rule_of, contents_of, contents_by, counted, low_rule, low_row, low_encode, filled_len, filled, Canonical};
 
-use crate::contents::{Entry, EntryContents, RuleEntry};
+use crate::contents::{Entry, EntryContents, FileContents, RuleEntry};
 use crate::row::Row;
 
 // A lent buffer, and the place in it where the next bytes go; behind its end bytes are only counted.
@@ -95,7 +95,7 @@ impl Encode for Row<'_> {
 
 // The four sections, each behind its count.
 impl<R: Entry> Encode for EntryContents<'_, R> {
-    ghost bytes = { λ contents. low_encode (contents_of R.Entry.rule contents) };
+    ghost bytes = { λ contents. low_encode (contents_by R.Entry.rule contents) };
 
     fn write_to(&self, to: &mut Writer<'_>) {
         to.put_counted(self.names);
@@ -110,7 +110,7 @@ impl<R: Entry> Encode for EntryContents<'_, R> {
 
 // Writes the contents from the start of the buffer on, and answers how many bytes they have.
 fn put_contents<R: Entry>(out: &mut [u8], contents: &EntryContents<'_, R>) -> usize
-    ensures { Wrote out.old 0 (low_encode (contents_of R.rule contents.now)) result out.new }
+    ensures { Wrote out.old 0 (low_encode (contents_by R.rule contents.now)) result out.new }
 {
     let mut to = Writer { out, at: 0 };
     contents.write_to(&mut to);
@@ -120,12 +120,15 @@ fn put_contents<R: Entry>(out: &mut [u8], contents: &EntryContents<'_, R>) -> us
 // Writes the bytes of the contents at the start of the buffer and answers how many they are.
 // Where they do not fit it answers `None`, and the buffer is as it was. Of counts and lengths the low
 // bytes are written; of legal contents that is their encoding, which the check reads back.
-pub fn encode_into<R: Entry>(contents: &EntryContents<'_, R>, out: &mut [u8]) -> Option<usize>
-    ensures value { Legal (contents_of R.rule contents.now) → result ≡ filled_len (encode (contents_of R.rule contents.now)) out.old }
-    ensures out { Legal (contents_of R.rule contents.now) → out.new ≡ filled (encode (contents_of R.rule contents.now)) out.old }
-    ensures low_value { result ≡ filled_len (low_encode (contents_of R.rule contents.now)) out.old }
-    ensures low_out { out.new ≡ filled (low_encode (contents_of R.rule contents.now)) out.old }
-    ensures law { Legal (contents_of R.rule contents.now) → Canonical (contents_of R.rule contents.now) }
+pub fn encode_entries_into<R: Entry>(
+    contents: &EntryContents<'_, R>,
+    out: &mut [u8],
+) -> Option<usize>
+    ensures value { Legal (contents_by R.rule contents.now) → result ≡ filled_len (encode (contents_by R.rule contents.now)) out.old }
+    ensures out { Legal (contents_by R.rule contents.now) → out.new ≡ filled (encode (contents_by R.rule contents.now)) out.old }
+    ensures low_value { result ≡ filled_len (low_encode (contents_by R.rule contents.now)) out.old }
+    ensures low_out { out.new ≡ filled (low_encode (contents_by R.rule contents.now)) out.old }
+    ensures law { Legal (contents_by R.rule contents.now) → Canonical (contents_by R.rule contents.now) }
 {
     // Written nowhere, the bytes are only counted.
     let needed = put_contents(&mut [], contents);
@@ -133,4 +136,22 @@ pub fn encode_into<R: Entry>(contents: &EntryContents<'_, R>, out: &mut [u8]) ->
         return None;
     }
     Some(put_contents(out, contents))
+}
+
+// The same, of contents whose rules are lent. It has no type parameter, so that it can be handed on
+// as a function pointer.
+pub fn encode_into(contents: &FileContents<'_>, out: &mut [u8]) -> Option<usize>
+    ensures value { Legal (contents_of contents.now) → result ≡ filled_len (encode (contents_of contents.now)) out.old }
+    ensures out { Legal (contents_of contents.now) → out.new ≡ filled (encode (contents_of contents.now)) out.old }
+    ensures low_value { result ≡ filled_len (low_encode (contents_of contents.now)) out.old }
+    ensures low_out { out.new ≡ filled (low_encode (contents_of contents.now)) out.old }
+    ensures law { Legal (contents_of contents.now) → Canonical (contents_of contents.now) }
+{
+    let contents = EntryContents {
+        names: contents.names,
+        kinds: contents.kinds,
+        rules: contents.rules,
+        rows: contents.rows,
+    };
+    encode_entries_into(&contents, out)
 }

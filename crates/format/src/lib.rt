@@ -14,8 +14,10 @@ mod rules;
 mod tests;
 
 pub use check::check_file;
-pub use contents::{Entry, EntryContents, FileContents, OwnedContents, OwnedEntry, RuleEntry};
-pub use encode::encode_into;
+pub use contents::{
+    Entry, EntryContents, FileContents, LentContents, OwnedContents, OwnedEntry, RuleEntry,
+};
+pub use encode::{encode_entries_into, encode_into};
 pub use file_tally::{FileTally, OneNumber};
 pub use row::{Checked, Row, Section};
 pub use rows::{SectionRows, rows_section};

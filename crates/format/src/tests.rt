@@ -25,14 +25,14 @@ fn small_file_there_and_back(rt: HostRuntime) {
         symbol: 1,
         word: &[0],
     }];
-    let contents = FileContents {
+    let contents = LentContents {
         names: b"bc",
         kinds: &[1],
         rules: &rules,
         rows: &rows,
     };
     let mut out = [9; 43];
-    assert_eq!(rt; encode_into(&contents, &mut out), Some(43));
+    assert_eq!(rt; encode_entries_into(&contents, &mut out), Some(43));
     assert!(rt; out.starts_with(b"\x02bc\x01\x01\x00\x04\x00L"));
     assert!(rt; out.ends_with(&[1, 1, 1, 0]));
     match check_file::<FootMm>(&out) {
@@ -79,7 +79,7 @@ fn owned_rules_have_the_same_bytes(rt: HostRuntime) {
         rows: &rows,
     };
     let mut out = [9; 43];
-    assert_eq!(rt; encode_into(&contents, &mut out), Some(43));
+    assert_eq!(rt; encode_entries_into(&contents, &mut out), Some(43));
     assert!(rt;
         out.starts_with(
             b"\x02bc\x01\x01\x00\x04\x00L\x00\x00\x01\x0e\x00\x00S\x00\x00\x00\x00\x02\x00\x00"
@@ -93,6 +93,73 @@ fn owned_rules_have_the_same_bytes(rt: HostRuntime) {
 // A buffer of one byte less stays as it was; of one more, its last byte does.
 #[test]
 fn what_has_no_room_stays(rt: HostRuntime) {
+    let contents = LentContents {
+        names: b"b",
+        kinds: &[],
+        rules: &[],
+        rows: &[],
+    };
+    let mut short = [9; 5];
+    assert_eq!(rt; encode_entries_into(&contents, &mut short), None);
+    assert_eq!(rt; short, [9; 5]);
+    let mut long = [9; 7];
+    assert_eq!(rt; encode_entries_into(&contents, &mut long), Some(6));
+    assert_eq!(rt; long, [1, b'b', 0, 0, 0, 0, 9]);
+}
+
+// Contents written by a function that is handed on.
+fn written(
+    by: fn(&FileContents<'_>, &mut [u8]) -> Option<usize>,
+    contents: &FileContents<'_>,
+    out: &mut [u8],
+) -> Option<usize>
+    requires { IsAlwaysCallable by }
+{
+    by(contents, out)
+}
+
+// `encode_into` writes the same 43 bytes, also where it is handed on; a short buffer stays.
+#[test]
+fn lent_rules_have_the_same_bytes(rt: HostRuntime) {
+    let rules = [
+        rule(0, b'L', &[270], &[]),
+        rule(0, b'S', &[0], &[0, 0]),
+        rule(1, b'L', &[270], &[]),
+        rule(1, b'S', &[0], &[0, 1]),
+    ];
+    let rows = [Row {
+        symbol: 1,
+        word: &[0],
+    }];
+    let contents = FileContents {
+        names: b"bc",
+        kinds: &[1],
+        rules: &rules,
+        rows: &rows,
+    };
+    let mut out = [9; 44];
+    assert_eq!(rt; encode_into(&contents, &mut out), Some(43));
+    assert!(rt;
+        out.starts_with(
+            b"\x02bc\x01\x01\x00\x04\x00L\x00\x00\x01\x0e\x00\x00S\x00\x00\x00\x00\x02\x00\x00"
+        )
+    );
+    assert!(rt;
+        out.ends_with(
+            b"\x01L\x00\x00\x01\x0e\x00\x01S\x00\x00\x00\x00\x02\x00\x01\x01\x01\x01\x00\x09"
+        )
+    );
+    let mut short = [9; 42];
+    assert_eq!(rt; written(encode_into, &contents, &mut short), None);
+    assert_eq!(rt; short, [9; 42]);
+    let mut long = [9; 44];
+    assert_eq!(rt; written(encode_into, &contents, &mut long), Some(43));
+    assert_eq!(rt; long, out);
+}
+
+// Contents with no rules: a buffer of one byte less stays as it was; of one more, its last byte does.
+#[test]
+fn lent_rules_may_be_none(rt: HostRuntime) {
     let contents = FileContents {
         names: b"b",
         kinds: &[],

@@ -1,12 +1,12 @@
 use Rattle.std.proofs.Common.{◌∙◌, ap, arith}
-use Rattle.format.specs.Lent.{contents_of, low_encode, filled_len, filled}
+use Rattle.format.specs.Lent.{contents_by, low_encode, filled_len, filled}
 use Rattle.format.proofs.Low.{canonical}
 use Rattle.format.proofs.Writes.{no_room, room}
-use Rattle.format.proofs.encode.encode_into.Goals as goal
+use Rattle.format.proofs.encode.encode_entries_into.Goals as goal
 
 pub returns-then-needed-out : goal.returns-then-needed-out
 returns-then-needed-out g c =
-    let C = contents_of g.R.Entry.rule c.args.contents.now in
+    let C = contents_by g.R.Entry.rule c.args.contents.now in
     let o = c.args.out.now in
     let none = no_room (low_encode C) o c.put_contents-needed.ensures c.if-needed-out.true in
     record {
@@ -19,7 +19,7 @@ returns-then-needed-out g c =
 
 pub returns : goal.returns
 returns g c =
-    let C = contents_of g.R.Entry.rule c.args.contents.now in
+    let C = contents_by g.R.Entry.rule c.args.contents.now in
     let o = c.args.out.now in
     let all = room (low_encode C) o c.put_contents-needed.ensures (omega arith) c.if-needed-out.false c.put_contents.ensures in
     record {
